@@ -1,0 +1,111 @@
+// SPDX-License-Identifier: Apache-2.0
+// The calendar core: seven bytes by value, and the tick that takes a valid calendar to the next second.
+//
+//   fields.rt   one field of two decimal digits: its number, its limits, its step with a carry
+//   months.rt   how many days a month has
+//   lib.rt      the calendar: the carry goes from field to field
+ghost use mathlib.Core.Path.{_≡_};
+ghost use lib.Dec.{T};
+ghost use Rattle.calendar.specs.Next.{lengthOf, isValid, tickOf, nextOf};
+ghost use Rattle.calendar.specs.Width.{isWithin};
+
+pub mod fields;
+pub mod months;
+
+use crate::fields::in_field;
+use crate::fields::step;
+use crate::fields::value;
+use crate::months::month_length;
+
+// Date and time as registers 02h to 08h hold them: two decimal digits a byte, the day of the week plain.
+pub struct Calendar {
+    pub seconds: u8,
+    pub minutes: u8,
+    pub hours: u8,
+    pub day: u8,
+    pub date: u8,
+    pub month: u8,
+    pub year: u8,
+}
+
+// A calendar after a tick, and whether year 99 gave way to 00.
+pub struct Advanced {
+    pub calendar: Calendar,
+    pub century: bool,
+}
+
+impl Calendar {
+    // Whether each byte fits the bits that its register stores. The year's register stores all eight.
+    pub fn is_within(self) -> bool
+        ensures { λ r. ⌜ r ≡ isWithin self ⌝ }
+    {
+        (self.seconds < 128)
+            & (self.minutes < 128)
+            & (self.hours < 64)
+            & (self.day < 8)
+            & (self.date < 64)
+            & (self.month < 32)
+    }
+
+    // How many days the calendar's own month has; 0 where its month byte is no month.
+    fn length(self) -> u8
+        ensures { λ r. ⌜ r ≡ lengthOf self ⌝ }
+    {
+        month_length(value(self.month), value(self.year))
+    }
+
+    // Whether the calendar is a date and a time that exist.
+    pub fn is_valid(self) -> bool
+        ensures { λ r. ⌜ r ≡ isValid self ⌝ }
+    {
+        in_field(self.seconds, 0, 59)
+            & in_field(self.minutes, 0, 59)
+            & in_field(self.hours, 0, 23)
+            & in_field(self.day, 1, 7)
+            & in_field(self.date, 1, self.length())
+            & in_field(self.month, 1, 12)
+            & in_field(self.year, 0, 99)
+    }
+
+    // The next second of a valid calendar. Each field takes the carry of the one below it; the hours carry at
+    // midnight, and that moves both the day of the week and the date.
+    fn tick(self) -> Advanced
+        requires { ⌜ T (isValid self) ⌝ }
+        ensures { λ r. ⌜ r ≡ tickOf self ⌝ }
+    {
+        let length = self.length();
+        let seconds = step(self.seconds, 0, 59, true);
+        let minutes = step(self.minutes, 0, 59, seconds.carry);
+        let hours = step(self.hours, 0, 23, minutes.carry);
+        let day = step(self.day, 1, 7, hours.carry);
+        let date = step(self.date, 1, length, hours.carry);
+        let month = step(self.month, 1, 12, date.carry);
+        let year = step(self.year, 0, 99, month.carry);
+        Advanced {
+            calendar: Calendar {
+                seconds: seconds.byte,
+                minutes: minutes.byte,
+                hours: hours.byte,
+                day: day.byte,
+                date: date.byte,
+                month: month.byte,
+                year: year.byte,
+            },
+            century: year.carry,
+        }
+    }
+
+    // The next second of a valid calendar, and whether year 99 gave way to 00. An invalid calendar comes back as it
+    // is, and raises nothing.
+    pub fn next(self) -> Advanced
+        ensures { λ r. ⌜ r ≡ nextOf self ⌝ }
+    {
+        if self.is_valid() {
+            return self.tick();
+        }
+        Advanced {
+            calendar: self,
+            century: false,
+        }
+    }
+}

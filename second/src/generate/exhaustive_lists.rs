@@ -1,0 +1,31 @@
+// SPDX-License-Identifier: Apache-2.0
+//! All exhaustive families together.
+
+use super::{exhaustive_bus, exhaustive_calendar, exhaustive_power, exhaustive_registers, List};
+
+/// The small exhaustive families; see the modules for what each tries.
+pub fn exhaustive() -> Vec<List> {
+    let mut lists = Vec::new();
+    lists.extend(exhaustive_bus::slave_bytes());
+    lists.extend(exhaustive_bus::companion_addresses());
+    lists.extend(exhaustive_bus::memory_address_bytes());
+    lists.extend(exhaustive_bus::write_protection());
+    lists.extend(exhaustive_bus::address_wraps());
+    lists.extend(exhaustive_bus::cuts());
+    lists.extend(exhaustive_bus::insertions());
+    lists.extend(exhaustive_bus::pairs_of_events());
+    lists.extend(exhaustive_registers::register_values());
+    lists.extend(exhaustive_registers::control_writes());
+    lists.extend(exhaustive_registers::flags_kept());
+    lists.extend(exhaustive_registers::flag_races());
+    lists.extend(exhaustive_calendar::month_ends());
+    lists.extend(exhaustive_calendar::rollovers());
+    lists.extend(exhaustive_calendar::whole_day());
+    lists.extend(exhaustive_calendar::field_values());
+    lists.extend(exhaustive_calendar::alarm_field_values());
+    lists.extend(exhaustive_calendar::alarm_match_combinations());
+    lists.extend(exhaustive_power::power_sequences());
+    lists.extend(exhaustive_power::pin_functions());
+    lists.extend(exhaustive_power::ticks_everywhere());
+    lists
+}

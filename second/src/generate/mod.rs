@@ -1,0 +1,100 @@
+// SPDX-License-Identifier: Apache-2.0
+//! Generators of event lists. They are deterministic: the same arguments give
+//! the same lists.
+//!
+//! * [`exhaustive`]: small families that try every value of something.
+//! * [`structured`]: transactions of every kind with chosen disturbances.
+//! * [`random`]: noise and plausible traffic by weights.
+//!
+//! What [`exhaustive`] holds; `tests/generators.rs` fails when the numbers are
+//! no longer true:
+//!
+//! | family | lists | events | what it tries |
+//! |---|---|---|---|
+//! | slave-bytes | 512 | 73,216 | all 256 slave bytes, ninth bits high and low |
+//! | companion-addresses | 256 | 19,712 | all 256 companion address bytes |
+//! | memory-address-bytes | 256 | 66,048 | all first and all second address bytes |
+//! | write-protection | 256 | 213,248 | all 256 bytes of 0Eh, addresses at each border |
+//! | address-wraps | 246 | 149,820 | from 0Eh to 00h and from 1FFFh to 0000h |
+//! | cuts | 2,325 | 492,855 | every transaction cut after every clock |
+//! | insertions | 930 | 200,844 | a tick or event 7 after every clock |
+//! | pairs-of-events | 3,520 | 479,680 | all 64 pairs inside transactions |
+//! | register-values | 60 | 1,060,556 | every register, byte, W and CAL |
+//! | control-writes | 16 | 595,392 | every byte of 00h after every AEN CAL W R |
+//! | flags-kept | 8 | 558,080 | every byte of 00h with every set of flags |
+//! | flag-races | 88 | 37,628 | ticks inside a read of 00h |
+//! | month-ends | 100 | 580,800 | 1,200 month ends and the days before |
+//! | rollovers | 15 | 68,244 | every second, minute, hour, day, date, year |
+//! | whole-day | 1 | 168,610 | 86,400 ticks |
+//! | calendar-field-values | 28 | 433,664 | all 256 values of each calendar byte |
+//! | alarm-field-values | 5 | 89,340 | all 256 values of each alarm byte |
+//! | alarm-matches | 32 | 112,608 | every Match and every difference |
+//! | power-sequences | 1,024 | 361,472 | all five events out of 4, 5, 6, 7 |
+//! | pin-functions | 32 | 6,000 | every AEN, CAL, AL/SW and AF |
+//! | ticks-everywhere | 48 | 27,072 | core, oscillator, W, R and power |
+//! | all | 9,758 | 5,794,889 | |
+
+mod exhaustive_bus;
+mod exhaustive_calendar;
+mod exhaustive_lists;
+mod exhaustive_power;
+mod exhaustive_registers;
+mod random_lists;
+mod random_source;
+mod script;
+mod structured_bus;
+mod structured_calendar;
+mod structured_companion;
+mod structured_lists;
+mod transactions;
+
+pub use exhaustive_lists::exhaustive;
+pub use random_lists::random;
+pub use random_source::RandomSource;
+pub use script::Script;
+pub use structured_lists::structured;
+
+use crate::device::Device;
+
+/// One list of events, to be run on a fresh device whose memory may be preset
+/// by `memory_seed` (see [`fill_memory`]).
+#[derive(Clone, Debug, PartialEq, Eq)]
+pub struct List {
+    pub family: &'static str,
+    pub name: String,
+    pub memory_seed: u64,
+    pub events: Vec<u8>,
+}
+
+impl List {
+    /// A list made of a script.
+    pub fn from_script(family: &'static str, name: String, seed: u64, script: Script) -> List {
+        List {
+            family,
+            name,
+            memory_seed: seed,
+            events: script.events,
+        }
+    }
+
+    /// The device that the list is to be run on.
+    pub fn device(&self) -> Device {
+        let mut device = Device::fresh();
+        fill_memory(self.memory_seed, &mut device.memory);
+        device
+    }
+}
+
+/// Fills a memory: seed 0 makes it all 0, any other seed gives pseudo random
+/// bytes.
+pub fn fill_memory(seed: u64, memory: &mut [u8]) {
+    let mut source = RandomSource::new(seed);
+    for byte in memory.iter_mut() {
+        *byte = if seed == 0 { 0 } else { source.byte() };
+    }
+}
+
+/// The number of events of some lists together.
+pub fn count_events(lists: &[List]) -> usize {
+    lists.iter().map(|list| list.events.len()).sum()
+}

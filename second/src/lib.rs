@@ -1,0 +1,31 @@
+// SPDX-License-Identifier: Apache-2.0
+//! The second program: a plain model of one FM3130.
+//!
+//! It was written from two documents alone: the rules (01, whose rulings
+//! decide first) and the data sheet (000). No other program about the part was
+//! read. Comments quote the sentence of 01 that a rule comes from; the places
+//! where 01 left a choice are numbered in `READINGS.md`.
+//!
+//! * [`calendar`]: the seven calendar bytes and the next second.
+//! * [`registers`]: the 15 registers, what a write stores, ticks, the alarm.
+//! * [`device`]: bus, memory and power; the events and their answers.
+//! * [`host`]: small helpers that play the bus master.
+//! * [`table`]: the cases K1 to K12 of 01, run over the bus.
+//! * [`generate`]: lists of events to run on this and on another program.
+
+pub mod calendar;
+pub mod device;
+pub mod generate;
+pub mod host;
+pub mod registers;
+pub mod table;
+
+pub use calendar::Calendar;
+pub use device::{Device, LogicalDevice, Phase, Power, Transfer};
+pub use registers::PinFunction;
+
+/// "8,192 bytes of FRAM".
+pub const MEMORY_BYTES: usize = 8192;
+
+/// "15 registers 00h to 0Eh".
+pub const REGISTER_COUNT: usize = 15;

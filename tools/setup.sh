@@ -1,0 +1,49 @@
+#!/bin/sh
+# SPDX-License-Identifier: Apache-2.0
+# setup.sh [bench]: sees that all that `make test` needs is on this Debian machine, and installs what
+# is missing; with the word bench, also what the measurements need. It says nothing and needs no
+# network where all is there. The Rattle kit itself is in no package: without `rt` it stops.
+set -eu
+
+fail() { printf 'setup: %s\n' "$*" >&2; exit 1; }
+
+"$(dirname "$0")/kit.sh" >/dev/null
+
+missing=''
+# Notes PACKAGE as missing unless COMMAND is there.
+need() { # COMMAND PACKAGE
+    command -v "$1" >/dev/null || missing="$missing $2"
+}
+
+# Notes PACKAGE as missing unless the compiler finds the C library to link statically. A compiler
+# that does not know the file prints its bare name.
+need_static_libc() { # COMPILER PACKAGE
+    case $("$1" -print-file-name=libc.a 2>/dev/null) in */*) ;; *) missing="$missing $2" ;; esac
+}
+
+need make make
+need cargo cargo
+need rustc rustc
+need cc gcc
+need_static_libc cc libc6-dev
+if [ "$(uname -m)" != x86_64 ]; then
+    # to link a program with the official archive, which is for x86-64
+    need x86_64-linux-gnu-gcc gcc-x86-64-linux-gnu
+    need_static_libc x86_64-linux-gnu-gcc libc6-dev-amd64-cross
+fi
+case ${1:-} in
+'') ;;
+bench) need valgrind valgrind ;;
+*) fail "usage: setup.sh [bench]" ;;
+esac
+
+[ -n "$missing" ] || exit 0
+[ "$(id -u)" = 0 ] || fail "missing, and only root can install it: apt-get install$missing"
+
+echo "setup: installing$missing"
+log=$(mktemp)
+trap 'rm -f "$log"' EXIT
+export DEBIAN_FRONTEND=noninteractive
+# shellcheck disable=SC2086 # one word a package
+{ apt-get update && apt-get install -y --no-install-recommends $missing; } >"$log" 2>&1 ||
+    { cat "$log" >&2; fail "apt-get could not install$missing"; }
