@@ -1,0 +1,37 @@
+-- SPDX-License-Identifier: Apache-2.0
+-- What a clock leaves of the memory's bytes: only the eighth clock of a data byte changes them, and only at the address. By
+-- cases on where the byte stands. Over the memory's size.
+-- Assumes nothing.
+use Prim.Native.Nat.{ℕ, _+_, _≤_, _<_}
+use mathlib.Core.Path.{_≡_, refl, ap, _∙_}
+use mathlib.Core.Bool.{Bool, true, false, cond}
+use mathlib.Core.List.{List}
+use native.Mathlib.Nat.{mod-lt}
+use lib.ListN.{length, set, length-set}
+use Rattle.wire.specs.Bits.{Place, first, within, last, ack, placeAt, pushed}
+use Rattle.wire.specs.Clock.{Taken, receivedAt, received, sentAt, sent}
+use Rattle.wire.specs.Kinds.{lowByte, memoryByte, memoryRead}
+use Rattle.wire.specs.Memory.{Store, lent, next, isProtected, pointed, refusedByte, putByte, byteAt, steppedOn}
+
+module _ (size : ℕ) (m : Store) where
+  low-bytes-at : (l : Place) (h k b : ℕ) (d : Bool) → receivedAt l (lowByte (pointed size) h) m k b d .part .bytes ≡ m .bytes
+  unfolding receivedAt
+  low-bytes-at first h k b d = refl
+  low-bytes-at within h k b d = refl
+  low-bytes-at last h k b d = refl
+  low-bytes-at ack h k b d = refl
+
+  -- the second address byte leaves the bytes alone
+  pub low-bytes : (h k b : ℕ) (d : Bool) → received (lowByte (pointed size) h) m k b d .part .bytes ≡ m .bytes
+  low-bytes h k b d = low-bytes-at (placeAt k) h k b d
+
+  fetch-bytes-at : (l : Place) (k b : ℕ) (d : Bool) → sentAt l (memoryRead byteAt (steppedOn size)) m k b d .part .bytes ≡ m .bytes
+  unfolding sentAt
+  fetch-bytes-at first k b d = refl
+  fetch-bytes-at within k b d = refl
+  fetch-bytes-at last k b d = refl
+  fetch-bytes-at ack k b d = refl
+
+  -- so does a byte that goes out
+  pub fetch-bytes : (k b : ℕ) (d : Bool) → sent (memoryRead byteAt (steppedOn size)) m k b d .part .bytes ≡ m .bytes
+  fetch-bytes k b d = fetch-bytes-at (placeAt k) k b d

@@ -1,0 +1,9 @@
+-- SPDX-License-Identifier: Apache-2.0
+pub mod Bits
+pub mod Slave
+pub mod Clock
+pub mod Kinds
+pub mod Machine
+pub mod Memory
+pub mod Outcome
+pub mod Limits

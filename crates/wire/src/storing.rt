@@ -1,0 +1,112 @@
+// SPDX-License-Identifier: Apache-2.0
+// Data bytes for the memory: the write protection, the store, and the clocks of such a byte. Over the memory's size.
+ghost use mathlib.Core.Path.{_≡_};
+ghost use mathlib.Core.List.{List};
+ghost use Prim.Native.Nat.{ℕ, _<_};
+ghost use lib.ListN.{length};
+ghost use Rattle.wire.specs.Clock.{received};
+ghost use Rattle.wire.specs.Kinds.{memoryByte};
+ghost use Rattle.wire.specs.Memory.{lent, protectedBelow, isProtected, refusedByte, putByte};
+ghost use Rattle.wire.specs.Outcome.{MovedWith, PutWith};
+use crate::Moved;
+use crate::Phase;
+use crate::Put;
+use crate::Side;
+use crate::address::next_address;
+use crate::between::keep;
+use crate::bits::push;
+
+// The first address that the protection bits WP1 WP0, as a number, leave free.
+pub fn protected_below(size: u16, guard: u8) -> u16
+    ensures { λ r. ⌜ r ≡ protectedBelow size guard ⌝ }
+{
+    match guard {
+        0 => 0,
+        1 => size / 4,
+        2 => size / 2,
+        _ => size,
+    }
+}
+
+// Whether a data byte for an address is refused.
+pub fn is_protected(size: u16, guard: u8, address: u16) -> bool
+    ensures { λ r. ⌜ r ≡ isProtected size guard address ⌝ }
+{
+    address < protected_below(size, guard)
+}
+
+// What a refused data byte leaves: the address as it was.
+fn refuse(address: u16) -> Put
+    ensures { λ r. ⌜ ((size : ℕ) (m : List ℕ) → PutWith r m (refusedByte size (lent m address))) ⌝ }
+{
+    Put {
+        address: address,
+        acknowledged: false,
+    }
+}
+
+// A whole data byte for the memory: stored, and the address steps on; or refused, where the address is protected.
+pub fn put(memory: &mut [u8], size: u16, guard: u8, address: u16, byte: u8) -> Put
+    requires { ⌜ (length (now memory) ≡ size) × (address < size) ⌝ }
+    ensures { λ r. ⌜ PutWith r (now (memory .exit)) (putByte size guard (lent (now (memory .entry)) address) byte) ⌝ }
+{
+    if is_protected(size, guard, address) {
+        return refuse(address);
+    }
+    let at = address as usize;
+    memory[at] = byte;
+    Put {
+        address: next_address(size, address),
+        acknowledged: true,
+    }
+}
+
+// A Clock in a data byte from the master.
+pub fn put_clock(
+    memory: &mut [u8],
+    size: u16,
+    guard: u8,
+    address: u16,
+    clocks: u8,
+    byte: u8,
+    high: bool,
+) -> Moved
+    requires { ⌜ (length (now memory) ≡ size) × (address < size) ⌝ }
+    ensures { λ r. ⌜ MovedWith r (now (memory .exit)) (received (memoryByte (putByte size guard)) (lent (now (memory .entry)) address) clocks byte high) ⌝ }
+{
+    if clocks < 7 {
+        let phase = Phase::Write {
+            side: Side::Memory,
+            clocks: clocks + 1,
+            byte: push(byte, high),
+        };
+        return Moved {
+            phase: phase,
+            address: address,
+            line: high,
+        };
+    }
+    if clocks == 7 {
+        let whole = push(byte, high);
+        let done = put(memory, size, guard, address, whole);
+        let phase = Phase::Write {
+            side: Side::Memory,
+            clocks: 8,
+            byte: whole,
+        };
+        return Moved {
+            phase: keep(done.acknowledged, phase),
+            address: done.address,
+            line: high,
+        };
+    }
+    Moved {
+        phase: Phase::Write {
+            side: Side::Memory,
+            clocks: 0,
+            byte: 0,
+        },
+        address: address,
+        line: false,
+    }
+}
