@@ -1,0 +1,10 @@
+-- SPDX-License-Identifier: Apache-2.0
+-- The companion's laws.
+-- Assumes nothing.
+pub mod Cases
+pub mod Address
+pub mod Bytes
+pub mod Fits
+pub mod LimitFacts
+pub mod Within
+pub mod Shown

@@ -1,0 +1,90 @@
+// SPDX-License-Identifier: Apache-2.0
+// The fifteen registers by address: what stands there, what a store leaves, and which bits of a byte each register
+// keeps.
+ghost use mathlib.Core.Path.{_≡_};
+ghost use Prim.Native.Nat.{_<_, _≤_};
+ghost use Rattle.companion.specs.Registers.{registerAt, putAt, topAndBelow, storedAt};
+use crate::Registers;
+
+impl Registers {
+    // The byte at an address.
+    pub fn read(self, address: u8) -> u8
+        requires { ⌜ address ≤ 14 ⌝ }
+        ensures { λ r. ⌜ r ≡ registerAt self address ⌝ }
+    {
+        match address {
+            0 => self.control,
+            1 => self.trim,
+            2 => self.time.seconds,
+            3 => self.time.minutes,
+            4 => self.time.hours,
+            5 => self.time.day,
+            6 => self.time.date,
+            7 => self.time.month,
+            8 => self.time.year,
+            9 => self.alarm.seconds,
+            10 => self.alarm.minutes,
+            11 => self.alarm.hours,
+            12 => self.alarm.date,
+            13 => self.alarm.month,
+            _ => self.setup,
+        }
+    }
+
+    // The registers with a byte at an address.
+    pub fn put(mut self, address: u8, byte: u8) -> Registers
+        requires { ⌜ address ≤ 14 ⌝ }
+        ensures { λ r. ⌜ r ≡ putAt self address byte ⌝ }
+    {
+        match address {
+            0 => self.control = byte,
+            1 => self.trim = byte,
+            2 => self.time.seconds = byte,
+            3 => self.time.minutes = byte,
+            4 => self.time.hours = byte,
+            5 => self.time.day = byte,
+            6 => self.time.date = byte,
+            7 => self.time.month = byte,
+            8 => self.time.year = byte,
+            9 => self.alarm.seconds = byte,
+            10 => self.alarm.minutes = byte,
+            11 => self.alarm.hours = byte,
+            12 => self.alarm.date = byte,
+            13 => self.alarm.month = byte,
+            _ => self.setup = byte,
+        }
+        self
+    }
+}
+
+// Bit 7 of a byte and its bits below a span, a power of two: those between are 0.
+fn top_and_below(span: u8, byte: u8) -> u8
+    requires { ⌜ (0 < span) × (span ≤ 128) ⌝ }
+    ensures { λ r. ⌜ r ≡ topAndBelow span byte ⌝ }
+{
+    byte / 128 * 128 + byte % span
+}
+
+// What the register at an address keeps of a byte; a write of 00h or 01h has rules of its own besides.
+pub fn stored(address: u8, byte: u8) -> u8
+    requires { ⌜ address ≤ 14 ⌝ }
+    ensures { λ r. ⌜ r ≡ storedAt address byte ⌝ }
+{
+    match address {
+        0 => byte,
+        1 => top_and_below(64, byte),
+        2 => byte % 128,
+        3 => byte % 128,
+        4 => byte % 64,
+        5 => byte % 8,
+        6 => byte % 64,
+        7 => byte % 32,
+        8 => byte,
+        9 => top_and_below(128, byte),
+        10 => top_and_below(128, byte),
+        11 => top_and_below(64, byte),
+        12 => top_and_below(64, byte),
+        13 => top_and_below(32, byte),
+        _ => byte,
+    }
+}

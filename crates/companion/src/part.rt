@@ -1,0 +1,95 @@
+// SPDX-License-Identifier: Apache-2.0
+// The companion in a transfer: an address byte, a data byte, a byte that is read and the end of that read.
+ghost use mathlib.Core.Path.{_≡_};
+ghost use Prim.Native.Nat.{_≤_};
+ghost use Rattle.companion.specs.Part.{nextAddress, steppedOf, refusedAddress, controlRead};
+ghost use Rattle.companion.specs.Part.{aimOf, storeOf, loadOf, loadedOf};
+use crate::Companion;
+use crate::Taken;
+use crate::control::flags_after;
+use crate::map::CONTROL;
+use crate::map::LAST;
+
+// The address after one: from 0Eh back to 00h.
+fn next_address(address: u8) -> u8
+    requires { ⌜ address ≤ 14 ⌝ }
+    ensures { λ r. ⌜ r ≡ nextAddress address ⌝ }
+{
+    (address + 1) % 15
+}
+
+impl Companion {
+    // The companion once its address stepped on.
+    fn stepped(self) -> Companion
+        requires { ⌜ self .address ≤ 14 ⌝ }
+        ensures { λ r. ⌜ r ≡ steppedOf self ⌝ }
+    {
+        let next = next_address(self.address);
+        self.with_address(next)
+    }
+
+    // What an address byte leaves that no register has: the old address stands.
+    fn refused_address(self) -> Taken
+        ensures { λ r. ⌜ r ≡ refusedAddress self ⌝ }
+    {
+        Taken {
+            companion: self,
+            acknowledged: false,
+        }
+    }
+
+    // An address byte: taken where a register has that address.
+    pub fn aim(self, byte: u8) -> Taken
+        ensures { λ r. ⌜ r ≡ aimOf self byte ⌝ }
+    {
+        if byte <= LAST {
+            return Taken {
+                companion: self.with_address(byte),
+                acknowledged: true,
+            };
+        }
+        self.refused_address()
+    }
+
+    // A data byte at its eighth clock: written to the register at the address, and the address steps on.
+    pub fn store(self, byte: u8) -> Taken
+        requires { ⌜ self .address ≤ 14 ⌝ }
+        ensures { λ r. ⌜ r ≡ storeOf self byte ⌝ }
+    {
+        let changed = self.written(byte);
+        Taken {
+            companion: changed.stepped(),
+            acknowledged: true,
+        }
+    }
+
+    // The byte at the address.
+    pub fn load(self) -> u8
+        requires { ⌜ self .address ≤ 14 ⌝ }
+        ensures { λ r. ⌜ r ≡ loadOf self ⌝ }
+    {
+        let registers = self.registers;
+        registers.read(self.address)
+    }
+
+    // The companion once 00h was read as a byte.
+    fn control_read(self, byte: u8) -> Companion
+        ensures { λ r. ⌜ r ≡ controlRead self byte ⌝ }
+    {
+        let mut registers = self.registers;
+        registers.control = flags_after(self.registers.control, byte);
+        self.with_registers(registers)
+    }
+
+    // The end of a read whose byte was fixed as the one given: of 00h the flags it showed are cleared; the address
+    // steps on.
+    pub fn loaded(self, byte: u8) -> Companion
+        requires { ⌜ self .address ≤ 14 ⌝ }
+        ensures { λ r. ⌜ r ≡ loadedOf self byte ⌝ }
+    {
+        if self.address == CONTROL {
+            return self.control_read(byte).stepped();
+        }
+        self.stepped()
+    }
+}

@@ -1,0 +1,75 @@
+// SPDX-License-Identifier: Apache-2.0
+// A one-second tick: the core goes on, the flags rise, 02h to 08h follow. Whether power or backup is present is the
+// caller's to test.
+ghost use mathlib.Core.Path.{_≡_};
+ghost use Rattle.companion.specs.Tick.{agrees, matches, toldOf, countedOf, tickOf};
+use crate::Alarm;
+use crate::Companion;
+use crate::control::flagged;
+use crate::control::followed;
+use crate::map::AF;
+use crate::map::CF;
+use crate::map::MATCH;
+use crate::map::OSCEN;
+use crate::map::has;
+use calendar::Calendar;
+
+// Whether an alarm field lets a calendar field pass: it has Match, or it is equal.
+fn agrees(alarm: u8, field: u8) -> bool
+    ensures { λ r. ⌜ r ≡ agrees alarm field ⌝ }
+{
+    has(alarm, MATCH) | (alarm % 128 == field)
+}
+
+impl Alarm {
+    // Whether each selected field equals the calendar's; with none selected, always.
+    fn matches(self, time: Calendar) -> bool
+        ensures { λ r. ⌜ r ≡ matches self time ⌝ }
+    {
+        agrees(self.seconds, time.seconds)
+            & agrees(self.minutes, time.minutes)
+            & agrees(self.hours, time.hours)
+            & agrees(self.date, time.date)
+            & agrees(self.month, time.month)
+    }
+}
+
+// 00h after a tick that counts: AF rises where the alarm rang, CF where the year left the century.
+fn told(control: u8, rung: bool, century: bool) -> u8
+    ensures { λ r. ⌜ r ≡ toldOf control rung century ⌝ }
+{
+    let af = has(control, AF) | rung;
+    let cf = has(control, CF) | century;
+    flagged(control, af, cf)
+}
+
+impl Companion {
+    // A tick that counts: a valid core advances and is compared with the alarm, an invalid one stays and rings nothing.
+    fn counted(self) -> Companion
+        ensures { λ r. ⌜ r ≡ countedOf self ⌝ }
+    {
+        let core = self.core;
+        let registers = self.registers;
+        let alarm = registers.alarm;
+        let next = core.next();
+        let advanced = next.calendar;
+        let rung = core.is_valid() & alarm.matches(advanced);
+        let control = told(registers.control, rung, next.century);
+        let time = followed(registers.control, advanced, registers.time);
+        Companion {
+            registers: registers.with_time(control, time),
+            core: advanced,
+            address: self.address,
+        }
+    }
+
+    // A tick: nothing changes while the oscillator is off.
+    pub fn tick(self) -> Companion
+        ensures { λ r. ⌜ r ≡ tickOf self ⌝ }
+    {
+        if has(self.registers.trim, OSCEN) {
+            return self;
+        }
+        self.counted()
+    }
+}

@@ -1,0 +1,94 @@
+// SPDX-License-Identifier: Apache-2.0
+// What a data byte does to the register at the companion's address.
+ghost use mathlib.Core.Path.{_≡_};
+ghost use Prim.Native.Nat.{_≤_};
+ghost use Rattle.companion.specs.Write.{controlWritten, trimAfter, trimWritten};
+ghost use Rattle.companion.specs.Write.{byteStored, timeWritten, writtenOf};
+use crate::Companion;
+use crate::access::stored;
+use crate::control::control_after;
+use crate::control::core_after;
+use crate::control::time_after;
+use crate::map::CAL;
+use crate::map::CONTROL;
+use crate::map::TRIM;
+use crate::map::W;
+use crate::map::YEARS;
+use crate::map::has;
+
+// 01h after a write: OSCEN is taken, bit 6 is 0, the last six bits are taken only with CAL at 1.
+fn trim_after(control: u8, old: u8, byte: u8) -> u8
+    ensures { λ r. ⌜ r ≡ trimAfter control old byte ⌝ }
+{
+    if has(control, CAL) {
+        return byte / 128 * 128 + byte % 64;
+    }
+    byte / 128 * 128 + old % 64
+}
+
+impl Companion {
+    // A write of 00h: the core first, then 02h to 08h by the core as it now is.
+    fn control_written(self, byte: u8) -> Companion
+        ensures { λ r. ⌜ r ≡ controlWritten self byte ⌝ }
+    {
+        let registers = self.registers;
+        let old = registers.control;
+        let core = core_after(old, byte, self.core, registers.time);
+        let time = time_after(old, byte, core, registers.time);
+        let control = control_after(old, byte);
+        Companion {
+            registers: registers.with_time(control, time),
+            core: core,
+            address: self.address,
+        }
+    }
+
+    // A write of 01h.
+    fn trim_written(self, byte: u8) -> Companion
+        ensures { λ r. ⌜ r ≡ trimWritten self byte ⌝ }
+    {
+        let mut registers = self.registers;
+        registers.trim = trim_after(self.registers.control, self.registers.trim, byte);
+        self.with_registers(registers)
+    }
+
+    // A write to a register that keeps its stored bits at any time.
+    fn byte_stored(self, byte: u8) -> Companion
+        requires { ⌜ self .address ≤ 14 ⌝ }
+        ensures { λ r. ⌜ r ≡ byteStored self byte ⌝ }
+    {
+        let address = self.address;
+        let registers = self.registers;
+        let kept = stored(address, byte);
+        self.with_registers(registers.put(address, kept))
+    }
+
+    // A write to one of 02h to 08h: stored only with W at 1.
+    fn time_written(self, byte: u8) -> Companion
+        requires { ⌜ self .address ≤ 14 ⌝ }
+        ensures { λ r. ⌜ r ≡ timeWritten self byte ⌝ }
+    {
+        if has(self.registers.control, W) {
+            return self.byte_stored(byte);
+        }
+        self
+    }
+
+    // A write to the register at the address.
+    pub(crate) fn written(self, byte: u8) -> Companion
+        requires { ⌜ self .address ≤ 14 ⌝ }
+        ensures { λ r. ⌜ r ≡ writtenOf self byte ⌝ }
+    {
+        let address = self.address;
+        if address == CONTROL {
+            return self.control_written(byte);
+        }
+        if address == TRIM {
+            return self.trim_written(byte);
+        }
+        if address <= YEARS {
+            return self.time_written(byte);
+        }
+        self.byte_stored(byte)
+    }
+}
