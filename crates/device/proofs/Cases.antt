@@ -1,0 +1,60 @@
+-- SPDX-License-Identifier: Apache-2.0
+-- A clock's outcome by the phase that the state is in, and an event's by its supply. Each law turns the case that a `match`
+-- found into the definition at the matched value.
+-- Assumes nothing.
+use Prim.Native.Nat.{ℕ, _/_, _≤_}
+use mathlib.Core.Path.{_≡_, refl}
+use mathlib.Core.Bool.{Bool, true, false}
+use mathlib.Core.List.{List}
+use native.Mathlib.Omega.{arith}
+use lib.Dec.{eqb}
+use borrow.Author.Tests.{eqb-true, eqb-false}
+use Rattle.wire.specs.Memory.{Store, lent}
+use Rattle.wire.specs.Machine.{clock, out, clocked}
+use Rattle.wire.specs.declared.Phase.{Phase}
+use Rattle.wire.specs.declared.Phase.the-variants.{Idle}
+use Rattle.companion.specs.declared.Companion.{Companion}
+use Rattle.device.specs.Chip.{fm3130, Done}
+use Rattle.device.specs.Bus.{clockedWith}
+use Rattle.device.specs.Event.{Happening, onWire, returned, happening, eventOn}
+use Rattle.device.specs.Step.{HappenedWith, Stills}
+use Rattle.device.specs.declared.Power.{Power}
+use Rattle.device.specs.declared.State.{State}
+use Rattle.device.specs.declared.Happened.{Happened}
+
+pub at-phase : (s : State) (m : List ℕ) (high : Bool) {r : Happened} {m′ : List ℕ} {p q : Phase} → p ≡ q
+    → HappenedWith r m′ (clockedWith s m q high) → HappenedWith r m′ (clockedWith s m p high)
+at-phase s m high e t = rw e t
+
+pub at-power : (s : State) (m : List ℕ) (x : Happening) {r : Happened} {m′ : List ℕ} {p q : Power} → p ≡ q
+    → HappenedWith r m′ (eventOn q x s m) → HappenedWith r m′ (eventOn p x s m)
+at-power s m x e t = rw e t
+
+pub still-at-power : (s r : State) (x : Happening) {p q : Power} → p ≡ q
+    → Stills r (λ m. eventOn q x s m) → Stills r (λ m. eventOn p x s m)
+still-at-power s r x e t m = rw e (t m)
+
+-- a Clock outside a transfer leaves the state as it is
+idle-clocked : (p : Phase) (m : Store) (c : Companion) (d : Bool) → p ≡ Idle → clocked fm3130 p m c d ≡ out fm3130 p m c d
+unfolding clocked
+idle-clocked p m c d e = rw e
+
+pub idle-clock : (s : State) (m : List ℕ) (high : Bool) → s .phase ≡ Idle
+    → HappenedWith (record { state = s; line = high }) m (clockedWith s m (s .phase) high)
+idle-clock s m high e = rw (idle-clocked (s .phase) (lent m (s .address)) (s .companion) high e) (record { result = refl; memory = refl })
+
+-- an event byte of 2 or 3 is a Clock, with the master's line high at 3
+clock-by : (e : ℕ) (t : Bool) → eqb e 3 ≡ t → e / 2 ≡ 1 → happening e ≡ onWire (clock t)
+unfolding happening
+clock-by e true q h = rw (eqb-true e 3 q)
+clock-by e false q h =
+    let n = eqb-false e 3 q in let two : e ≡ 2 = omega arith in rw two
+
+pub happening-clock : (e : ℕ) → e / 2 ≡ 1 → happening e ≡ onWire (clock (eqb e 3))
+happening-clock e h = clock-by e (eqb e 3) refl h
+
+-- the last of the eight
+pub happening-returned : (e : ℕ) → e ≤ 7 → (e / 2 ≡ 1 → ⊥) → (e ≡ 0 → ⊥) → (e ≡ 1 → ⊥) → (e ≡ 4 → ⊥) → (e ≡ 5 → ⊥)
+    → (e ≡ 6 → ⊥) → happening e ≡ returned
+unfolding happening
+happening-returned e h k a b c d f = let seven : e ≡ 7 = omega arith in rw seven

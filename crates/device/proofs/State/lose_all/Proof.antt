@@ -1,0 +1,47 @@
+-- SPDX-License-Identifier: Apache-2.0
+-- Both supplies gone: heard while one is present.
+-- Assumes nothing.
+use borrow.Author.Needs.{needs}
+use Rattle.device.specs.Event.{eventOn}
+use Rattle.device.proofs.State.lose_all.Statement.{statement}
+use Rattle.device.proofs.State.lose_all.Tie as tie
+
+enum-told : tie.Need-enum-told
+enum-told c = search needs
+
+dark-requires : tie.Need-dark-requires
+dark-requires c κs = search needs
+
+enum-told-2 : tie.Need-enum-told-2
+enum-told-2 c = search needs
+
+dark-requires-2 : tie.Need-dark-requires-2
+dark-requires-2 c κs = search needs
+
+enum-told-3 : tie.Need-enum-told-3
+enum-told-3 c = search needs
+
+returns : tie.Need-returns
+unfolding eventOn
+returns c m = rw (c .before .enum-told .given .1, c .dark .ensures)
+
+returns-2 : tie.Need-returns-2
+unfolding eventOn
+returns-2 c m = rw (c .before .enum-told2 .given .1, c .dark2 .ensures)
+
+returns-3 : tie.Need-returns-3
+unfolding eventOn
+returns-3 c m = rw (c .enum-told3 .given .1)
+
+pub lose-all-spec : {M : Type 1} → statement M
+lose-all-spec =
+    tie.close
+    (tie.spec
+    enum-told
+    dark-requires
+    enum-told-2
+    dark-requires-2
+    enum-told-3
+    returns
+    returns-2
+    returns-3)

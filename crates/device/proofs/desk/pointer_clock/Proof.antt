@@ -1,0 +1,44 @@
+-- SPDX-License-Identifier: Apache-2.0
+-- A clock of the companion's address byte: inside it, at its eighth clock, at its acknowledge.
+-- Assumes nothing.
+use borrow.Author.Needs.{needs}
+use Rattle.wire.proofs.Clock.{received-inside, received-last, received-ack}
+use Rattle.device.proofs.desk.pointer_clock.Statement.{statement}
+use Rattle.device.proofs.desk.pointer_clock.Tie as tie
+
+add-t12 : tie.Need-add-t12
+add-t12 c = search needs
+
+push-requires : tie.Need-push-requires
+push-requires c κs = search needs
+
+returns : tie.Need-returns
+returns c = rw (received-inside _ _ _ _ _ (c .before .if1 .taken), c .push .ensures)
+
+push-requires-2 : tie.Need-push-requires-2
+push-requires-2 c κs = search needs
+
+aim-requires : tie.Need-aim-requires
+aim-requires c κs = search needs
+
+keep-requires : tie.Need-keep-requires
+keep-requires c κs = search needs
+
+returns-2 : tie.Need-returns-2
+returns-2 c = rw (received-last _ _ _ _ _ (c .before .before .before .before .if2 .taken), ← c .before .before .before .push2 .ensures, c .keep .ensures, c .before .before .aim .ensures)
+
+returns-3 : tie.Need-returns-3
+returns-3 c = rw (received-ack _ _ _ _ _ (c .before .if1 .left) (c .if2 .left))
+
+pub pointer-clock-spec : {M : Type 1} → statement M
+pointer-clock-spec =
+    tie.close
+    (tie.spec
+    add-t12
+    push-requires
+    returns
+    push-requires-2
+    aim-requires
+    keep-requires
+    returns-2
+    returns-3)

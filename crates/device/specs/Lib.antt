@@ -1,0 +1,10 @@
+-- SPDX-License-Identifier: Apache-2.0
+pub mod Numbers
+pub mod Desk
+pub mod Chip
+pub mod Bus
+pub mod Power
+pub mod Event
+pub mod Answer
+pub mod Limits
+pub mod Step

@@ -1,0 +1,32 @@
+-- SPDX-License-Identifier: Apache-2.0
+-- The numbers of 01's table (01, Entries and refusal numbers), each in the words of its line.
+-- Assumes nothing.
+use Prim.Native.Nat.{ℕ}
+
+-- "none below"
+abbrev pub accepted : ℕ
+accepted = 0
+
+-- "memory is not 8,192 bytes"
+abbrev pub wrongMemory : ℕ
+wrongMemory = 1
+
+-- "image is not 64 bytes, or no well-formed state writes it ..; for a state by value, outside the limits below"
+abbrev pub wrongState : ℕ
+wrongState = 2
+
+-- "some event byte is above 7"
+abbrev pub unknownEvent : ℕ
+unknownEvent = 3
+
+-- "answers shorter than events"
+abbrev pub shortAnswers : ℕ
+shortAnswers = 4
+
+-- "viewer: selector neither 0 (memory) nor 1 (registers)"
+abbrev pub unknownSelector : ℕ
+unknownSelector = 5
+
+-- "viewer: start + length (exact sum) passes the end of the chosen bytes"
+abbrev pub pastTheEnd : ℕ
+pastTheEnd = 6

@@ -1,0 +1,78 @@
+-- SPDX-License-Identifier: Apache-2.0
+-- The entry for one event, refusals too (01, Entries and refusal numbers). `StepSettled` is its whole outcome.
+--   Ready                                what an event asks of state and memory
+--   HappenedWith, AnsweredWith, Stills   what the functions below the entry return and leave
+--   refused, answered, stepOf            what the entry returns and leaves
+--   StepSettled                          the entry's contract
+-- Assumes nothing.
+use Prim.Native.Nat.{ℕ, _<_, _≤_}
+use mathlib.Core.Path.{_≡_}
+use mathlib.Core.Bool.{Bool, cond}
+use mathlib.Core.List.{List}
+use lib.Dec.{eqb, ltb}
+use lib.ListN.{length}
+use Rattle.device.specs.Numbers.{accepted, wrongMemory, wrongState, unknownEvent}
+use Rattle.device.specs.Chip.{memorySize, Done}
+use Rattle.device.specs.Event.{still, eventOf}
+use Rattle.device.specs.Answer.{answerByte}
+use Rattle.device.specs.Limits.{wellFormed}
+use Rattle.device.specs.declared.State.{State}
+use Rattle.device.specs.declared.Happened.{Happened}
+use Rattle.device.specs.declared.Answered.{Answered}
+use Rattle.device.specs.declared.Stepped.{Stepped}
+
+-- Auxiliary: what the code asks before it does an event; every well-formed state with 8,192 bytes of memory has it.
+pub record Ready (s : State) (m : List ℕ) : Type 0 where
+  pub memory : length m ≡ memorySize
+  pub address : s .address < memorySize
+  pub desk : s .companion .address ≤ 14
+
+-- Auxiliary: what a function returns, and the memory it leaves, are those of an event.
+pub record HappenedWith (r : Happened) (m : List ℕ) (d : Done) : Type 0 where
+  pub result : r ≡ record { state = d .state; line = d .line }
+  pub memory : m ≡ d .memory
+
+pub record AnsweredWith (r : Answered) (m : List ℕ) (d : Done) : Type 0 where
+  pub result : r ≡ record { state = d .state; answer = answerByte (d .state) (d .line) }
+  pub memory : m ≡ d .memory
+
+-- Auxiliary: an event that touches no memory and leaves the line high, told by the state it leaves.
+abbrev pub Stills : State → (List ℕ → Done) → Type 0
+Stills r event = (m : List ℕ) → event m ≡ still r m
+
+-- What the entry returns, and the memory it leaves.
+pub record Step : Type 0 where
+  pub number : ℕ
+  pub state : State
+  pub answer : ℕ
+  pub memory : List ℕ
+
+abbrev pub seen : Stepped → List ℕ → Step
+seen r m = record { number = r .number; state = r .state; answer = r .answer; memory = m }
+
+-- "A refused single event returns its state unchanged with answer byte 1."
+abbrev pub refusal : ℕ → State → Stepped
+refusal n s = record { number = n; state = s; answer = 1 }
+
+abbrev pub acceptance : State → ℕ → Stepped
+acceptance s a = record { number = accepted; state = s; answer = a }
+
+-- "As 1": nothing is written.
+abbrev pub refused : ℕ → State → List ℕ → Step
+refused n s m = seen (refusal n s) m
+
+abbrev pub answered : Done → Step
+answered d = seen (acceptance (d .state) (answerByte (d .state) (d .line))) (d .memory)
+
+-- "Checked in the order of the numbers."
+unfoldable pub stepOf : State → List ℕ → ℕ → Step
+stepOf s m e =
+    cond (eqb (length m) memorySize)
+    (cond (wellFormed s)
+    (cond (ltb e 8) (answered (eventOf s m e)) (refused unknownEvent s m))
+    (refused wrongState s m))
+    (refused wrongMemory s m)
+
+-- The contract of `State::step`: what it returns and the memory it leaves are `stepOf` of what it was given.
+abbrev pub StepSettled : State → List ℕ → ℕ → Stepped → List ℕ → Type 0
+StepSettled s m e r m′ = seen r m′ ≡ stepOf s m e

@@ -1,0 +1,161 @@
+// SPDX-License-Identifier: Apache-2.0
+// Start, Stop and a Clock while main power is present: each phase's clock is handed only what it may touch, and what it
+// leaves is put back into the state.
+ghost use mathlib.Core.Path.{_≡_};
+ghost use Rattle.wire.specs.declared.Phase.the-variants.{Write, Read};
+ghost use Rattle.device.specs.Bus.{withPhase, withTurned, withMoved, withChanged, clockedWith};
+ghost use Rattle.device.specs.Step.{Ready, HappenedWith};
+use crate::Changed;
+use crate::Happened;
+use crate::State;
+use crate::desk::load_clock;
+use crate::desk::pointer_clock;
+use crate::desk::store_clock;
+use wire::Moved;
+use wire::Phase;
+use wire::Side;
+use wire::Turned;
+use wire::address::low_clock;
+use wire::fetching::fetch_clock;
+use wire::slave::high_clock;
+use wire::slave::slave_clock;
+use wire::storing::put_clock;
+
+// The bytes of memory.
+pub const SIZE: u16 = 8192;
+
+impl State {
+    // The state in another phase.
+    pub(crate) fn with_phase(self, phase: Phase) -> State
+        ensures { λ r. ⌜ r ≡ withPhase self phase ⌝ }
+    {
+        let power = self.power;
+        let companion = self.companion;
+        State {
+            power: power,
+            phase: phase,
+            address: self.address,
+            companion: companion,
+        }
+    }
+
+    // A clock that touched no device.
+    fn turned(self, turned: Turned) -> Happened
+        ensures { λ r. ⌜ r ≡ withTurned self turned ⌝ }
+    {
+        let phase = turned.phase;
+        Happened {
+            state: self.with_phase(phase),
+            line: turned.line,
+        }
+    }
+
+    // A clock that served the memory.
+    fn moved(self, moved: Moved) -> Happened
+        ensures { λ r. ⌜ r ≡ withMoved self moved ⌝ }
+    {
+        let power = self.power;
+        let companion = self.companion;
+        let phase = moved.phase;
+        let state = State {
+            power: power,
+            phase: phase,
+            address: moved.address,
+            companion: companion,
+        };
+        Happened {
+            state: state,
+            line: moved.line,
+        }
+    }
+
+    // A clock that served the companion.
+    fn changed(self, changed: Changed) -> Happened
+        ensures { λ r. ⌜ r ≡ withChanged self changed ⌝ }
+    {
+        let power = self.power;
+        let companion = changed.companion;
+        let phase = changed.phase;
+        let address = self.address;
+        let state = State {
+            power: power,
+            phase: phase,
+            address: address,
+            companion: companion,
+        };
+        Happened {
+            state: state,
+            line: changed.line,
+        }
+    }
+
+    // A Clock in a data byte from the master, by the device that it serves.
+    fn write_clock(
+        self,
+        memory: &mut [u8],
+        side: Side,
+        clocks: u8,
+        byte: u8,
+        high: bool,
+    ) -> Happened
+        requires { ⌜ Ready self (now memory) ⌝ }
+        ensures { λ r. ⌜ HappenedWith r (now (memory .exit)) (clockedWith self (now (memory .entry)) (Write side clocks byte) high) ⌝ }
+    {
+        let companion = self.companion;
+        match side {
+            Side::Memory => {
+                let guard = companion.guard();
+                self.moved(put_clock(memory, SIZE, guard, self.address, clocks, byte, high))
+            }
+            Side::Companion => self.changed(store_clock(companion, clocks, byte, high)),
+        }
+    }
+
+    // A Clock in a data byte to the master, by the device that it serves.
+    fn read_clock(self, memory: &[u8], side: Side, clocks: u8, byte: u8, high: bool) -> Happened
+        requires { ⌜ Ready self (now memory) ⌝ }
+        ensures { λ r. ⌜ HappenedWith r (now (memory .entry)) (clockedWith self (now (memory .entry)) (Read side clocks byte) high) ⌝ }
+    {
+        let companion = self.companion;
+        match side {
+            Side::Memory => self.moved(fetch_clock(memory, SIZE, self.address, clocks, byte, high)),
+            Side::Companion => self.changed(load_clock(companion, clocks, byte, high)),
+        }
+    }
+
+    // A Clock, by phase.
+    pub(crate) fn clock_on(self, memory: &mut [u8], high: bool) -> Happened
+        requires { ⌜ Ready self (now memory) ⌝ }
+        ensures { λ r. ⌜ HappenedWith r (now (memory .exit)) (clockedWith self (now (memory .entry)) (self .phase) high) ⌝ }
+    {
+        let phase = self.phase;
+        let companion = self.companion;
+        match phase {
+            Phase::Idle => Happened {
+                state: self,
+                line: high,
+            },
+            Phase::Slave { clocks, byte } => self.turned(slave_clock(clocks, byte, high)),
+            Phase::AddressHigh { clocks, byte } => self.turned(high_clock(clocks, byte, high)),
+            Phase::AddressLow {
+                high: upper,
+                clocks,
+                byte,
+            } => self.moved(low_clock(SIZE, self.address, upper, clocks, byte, high)),
+            Phase::Pointer { clocks, byte } => self.changed(pointer_clock(
+                companion,
+                clocks,
+                byte,
+                high,
+            )),
+            Phase::Write { side, clocks, byte } => self.write_clock(
+                memory,
+                side,
+                clocks,
+                byte,
+                high,
+            ),
+            Phase::Read { side, clocks, byte } => self.read_clock(memory, side, clocks, byte, high),
+        }
+    }
+}

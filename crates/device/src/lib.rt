@@ -1,0 +1,61 @@
+// SPDX-License-Identifier: Apache-2.0
+// The FM3130: one event on a state by value and the lent memory.
+//
+// numbers  the numbers of the table of refusals
+// desk     the clocks of the bytes that serve the companion
+// bus      Start, Stop and a Clock, by phase
+// supply   the same under each supply, ticks, and the three events of the supplies
+// answer   the answer byte
+// limits   which states are well-formed
+// step     one event byte, and the entry with its refusals
+use companion::Companion;
+use wire::Phase;
+
+mod answer;
+mod bus;
+mod desk;
+mod limits;
+pub mod numbers;
+mod step;
+mod supply;
+
+// Which supplies are present: main power; backup alone; none.
+pub enum Power {
+    On,
+    Backup,
+    Off,
+}
+
+// The device without its memory, which the caller lends. The memory address stands here, the companion's own inside it.
+pub struct State {
+    pub power: Power,
+    pub phase: Phase,
+    pub address: u16,
+    pub companion: Companion,
+}
+
+// What an event leaves: the next state, and the line.
+pub struct Happened {
+    pub state: State,
+    pub line: bool,
+}
+
+// What an answered event leaves: the next state, and the answer byte.
+pub struct Answered {
+    pub state: State,
+    pub answer: u8,
+}
+
+// What the entry for one event returns: the number of the table, the next state, and the answer byte.
+pub struct Stepped {
+    pub number: u8,
+    pub state: State,
+    pub answer: u8,
+}
+
+// What a clock that serves the companion leaves: the next phase, the companion, and the line.
+pub struct Changed {
+    pub phase: Phase,
+    pub companion: Companion,
+    pub line: bool,
+}

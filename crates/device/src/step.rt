@@ -1,0 +1,101 @@
+// SPDX-License-Identifier: Apache-2.0
+// One event byte on a state and the lent memory, and the entry that refuses what 01's table refuses.
+ghost use mathlib.Core.Path.{_≡_};
+ghost use Prim.Native.Nat.{_≤_, _/_};
+ghost use Rattle.device.specs.Event.{eventOf};
+ghost use Rattle.device.specs.Step.{Ready, Stills, HappenedWith, AnsweredWith, refusal, acceptance, StepSettled};
+use crate::Answered;
+use crate::Happened;
+use crate::State;
+use crate::Stepped;
+use crate::bus::SIZE;
+use crate::numbers::ACCEPTED;
+use crate::numbers::UNKNOWN_EVENT;
+use crate::numbers::WRONG_MEMORY;
+use crate::numbers::WRONG_STATE;
+
+// What the entry returns of a refused event: its state unchanged with answer byte 1.
+fn refused(number: u8, state: State) -> Stepped
+    ensures { λ r. ⌜ r ≡ refusal number state ⌝ }
+{
+    Stepped {
+        number: number,
+        state: state,
+        answer: 1,
+    }
+}
+
+// What the entry returns of an answered event.
+fn accepted(state: State, answer: u8) -> Stepped
+    ensures { λ r. ⌜ r ≡ acceptance state answer ⌝ }
+{
+    Stepped {
+        number: ACCEPTED,
+        state: state,
+        answer: answer,
+    }
+}
+
+impl State {
+    // An event that is no Clock: it touches no memory.
+    fn other(self, event: u8) -> State
+        requires { ⌜ (event ≤ 7) × (event / 2 ≡ 1 → ⊥) ⌝ }
+        ensures { λ r. ⌜ Stills r (λ m. eventOf self m event) ⌝ }
+    {
+        match event {
+            0 => self.start(),
+            1 => self.stop(),
+            4 => self.tick(),
+            5 => self.lose(),
+            6 => self.lose_all(),
+            _ => self.restore(),
+        }
+    }
+
+    // One event of the eight. The two Clocks go one way, so that the large function behind them is called from one place.
+    fn happen(self, memory: &mut [u8], event: u8) -> Happened
+        requires { ⌜ Ready self (now memory) ⌝ }
+        requires { ⌜ event ≤ 7 ⌝ }
+        ensures { λ r. ⌜ HappenedWith r (now (memory .exit)) (eventOf self (now (memory .entry)) event) ⌝ }
+    {
+        if event / 2 == 1 {
+            return self.clock(memory, event == 3);
+        }
+        Happened {
+            state: self.other(event),
+            line: true,
+        }
+    }
+
+    // One event of the eight, with its answer byte.
+    pub fn advance(self, memory: &mut [u8], event: u8) -> Answered
+        requires { ⌜ Ready self (now memory) ⌝ }
+        requires { ⌜ event ≤ 7 ⌝ }
+        ensures { λ r. ⌜ AnsweredWith r (now (memory .exit)) (eventOf self (now (memory .entry)) event) ⌝ }
+    {
+        let done = self.happen(memory, event);
+        let state = done.state;
+        Answered {
+            state: state,
+            answer: state.answer(done.line),
+        }
+    }
+
+    // The entry for one event: refused by the first number that fits, or done.
+    pub fn step(self, memory: &mut [u8], event: u8) -> Stepped
+        ensures { λ r. ⌜ StepSettled self (now (memory .entry)) event r (now (memory .exit)) ⌝ }
+    {
+        if memory.len() != SIZE as usize {
+            return refused(WRONG_MEMORY, self);
+        }
+        if self.is_well_formed() {
+            if event < 8 {
+                let answered = self.advance(memory, event);
+                let state = answered.state;
+                return accepted(state, answered.answer);
+            }
+            return refused(UNKNOWN_EVENT, self);
+        }
+        refused(WRONG_STATE, self)
+    }
+}
