@@ -50,3 +50,22 @@ fn without_ticks_the_coverage_is_missed() {
     assert!(lacking.contains(&(Situation::FlagsRaised, 2)));
     assert!(lacking.contains(&(Situation::FieldRolledOver, 0)));
 }
+
+/// A Start while off, power back, and then clocks without a Start.
+#[test]
+fn a_start_while_off_is_tried() {
+    for (family, lists) in [
+        ("cuts", generate::exhaustive()),
+        ("cut-transactions", generate::structured(1, 300_000)),
+    ] {
+        let tried = lists
+            .iter()
+            .filter(|list| list.family == family)
+            .any(|list| {
+                list.events
+                    .windows(4)
+                    .any(|part| part == [0, 7, 3, 2] || part == [0, 7, 3, 3])
+            });
+        assert!(tried, "{family}");
+    }
+}

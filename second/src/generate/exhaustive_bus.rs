@@ -123,8 +123,9 @@ fn after_cut(script: &mut Script, cut: Option<u8>) {
             script.memory_read_current(1).companion_read_current(2);
         }
         Some(_) => {
-            script.clock(false).clock(true).start().clock(true).tick();
-            script.power_returned();
+            // a Start while off must not be known when power is back
+            script.clock(false).clock(true).tick().start();
+            script.power_returned().byte_and_acknowledge(0xA1);
             script.memory_read_current(1).read_all_registers();
         }
     }

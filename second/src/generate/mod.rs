@@ -16,7 +16,7 @@
 //! | memory-address-bytes | 256 | 66,048 | all first and all second address bytes |
 //! | write-protection | 256 | 213,248 | all 256 bytes of 0Eh, addresses at each border |
 //! | address-wraps | 246 | 149,820 | from 0Eh to 00h and from 1FFFh to 0000h |
-//! | cuts | 2,325 | 492,855 | every transaction cut after every clock |
+//! | cuts | 2,325 | 500,295 | every transaction cut after every clock |
 //! | insertions | 930 | 200,844 | a tick or event 7 after every clock |
 //! | pairs-of-events | 3,520 | 479,680 | all 64 pairs inside transactions |
 //! | register-values | 60 | 1,060,556 | every register, byte, W and CAL |
@@ -32,7 +32,7 @@
 //! | power-sequences | 1,024 | 361,472 | all five events out of 4, 5, 6, 7 |
 //! | pin-functions | 32 | 6,000 | every AEN, CAL, AL/SW and AF |
 //! | ticks-everywhere | 48 | 27,072 | core, oscillator, W, R and power |
-//! | all | 9,758 | 5,794,889 | |
+//! | all | 9,758 | 5,802,329 | |
 
 mod exhaustive_bus;
 mod exhaustive_calendar;

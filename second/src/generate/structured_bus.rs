@@ -33,7 +33,9 @@ pub fn transactions(source: &mut RandomSource) -> Vec<List> {
 /// Adds what shows the effects of a cut.
 fn look_around(script: &mut Script, cut: u8) {
     if cut >= 5 {
-        script.clock(false).tick().power_returned();
+        // a Start while off must not be known when power is back
+        script.clock(false).tick().start();
+        script.power_returned().byte_and_acknowledge(0xD1);
     }
     if cut == 0 {
         script.byte_and_acknowledge(0xD1).read_bytes(1);
