@@ -10,7 +10,7 @@ SHELL := bash
 .NOTPARALLEL:
 
 # The crates that export functions to C; each becomes build/native/libNAME.a and build/official/libNAME.a.
-ARCHIVES :=
+ARCHIVES := rig
 
 # The program that `make demo` runs.
 DEMO := almanac

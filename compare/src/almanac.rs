@@ -15,8 +15,24 @@ const CASES: [(&str, Calendar); 7] = [
     ("K7", at(0x12, 0x00, 0x00, 3, 0x31, 0x04, 0x24)),
 ];
 
-const fn at(hours: u8, minutes: u8, seconds: u8, day: u8, date: u8, month: u8, year: u8) -> Calendar {
-    Calendar { seconds, minutes, hours, day, date, month, year }
+const fn at(
+    hours: u8,
+    minutes: u8,
+    seconds: u8,
+    day: u8,
+    date: u8,
+    month: u8,
+    year: u8,
+) -> Calendar {
+    Calendar {
+        seconds,
+        minutes,
+        hours,
+        day,
+        date,
+        month,
+        year,
+    }
 }
 
 const fn last_of(day: u8, date: u8, month: u8, year: u8) -> Calendar {
@@ -42,9 +58,18 @@ fn with_byte(sum: u32, byte: u8) -> u32 {
 
 /// The sum with one more midnight: the seven bytes after it, and whether the century ended.
 fn with_midnight(sum: u32, after: &Calendar, century: bool) -> u32 {
-    [after.seconds, after.minutes, after.hours, after.day, after.date, after.month, after.year, u8::from(century)]
-        .iter()
-        .fold(sum, |sum, byte| with_byte(sum, *byte))
+    [
+        after.seconds,
+        after.minutes,
+        after.hours,
+        after.day,
+        after.date,
+        after.month,
+        after.year,
+        u8::from(century),
+    ]
+    .iter()
+    .fold(sum, |sum, byte| with_byte(sum, *byte))
 }
 
 /// The whole text: the seven cases, then a sum at the end of each year over all midnights so far.
@@ -53,7 +78,13 @@ pub fn expected() -> String {
     for (name, from) in &CASES {
         let (after, century) = from.next_second();
         let flag = if century { " CF" } else { "" };
-        writeln!(text, "{name} {} -> {}{flag}", text_of(from), text_of(&after)).unwrap();
+        writeln!(
+            text,
+            "{name} {} -> {}{flag}",
+            text_of(from),
+            text_of(&after)
+        )
+        .unwrap();
     }
     let mut sum = 0;
     for (before, after, century) in midnights() {

@@ -1,5 +1,15 @@
 // SPDX-License-Identifier: Apache-2.0
 //! Holds the proved programs to what the second program says. Nothing here knows
 //! the rules: one side is `second`, the other is the proved program.
+//!
+//! * [`archive`]: the proved program's entries, as C sees them.
+//! * [`image`]: the second program's device as the 64 bytes of docs/IMAGE.md.
+//! * [`lists`]: a list of events on both, whole and in pieces.
+//! * [`standin`]: what the proved stand-in is run on, and what it has to print.
+//! * [`almanac`]: what the proved calendar has to print.
 
 pub mod almanac;
+pub mod archive;
+pub mod image;
+pub mod lists;
+pub mod standin;

@@ -1,0 +1,76 @@
+// SPDX-License-Identifier: Apache-2.0
+//! The proved program's entries, as C sees them, behind safe functions.
+
+/// What the list run returns: the number of 01's table, and how many events were done.
+#[repr(C)]
+#[derive(Clone, Copy, Debug, PartialEq, Eq)]
+pub struct Ran {
+    pub number: u64,
+    pub count: u64,
+}
+
+mod foreign {
+    use super::Ran;
+
+    unsafe extern "C" {
+        pub fn fm3130_run(
+            image: *mut u8,
+            image_length: u64,
+            memory: *mut u8,
+            memory_length: u64,
+            events: *const u8,
+            events_length: u64,
+            answers: *mut u8,
+            answers_length: u64,
+        ) -> Ran;
+        pub fn fm3130_fresh(image: *mut u8, image_length: u64) -> u64;
+        pub fn fm3130_view_number(
+            image: *const u8,
+            image_length: u64,
+            memory: *const u8,
+            memory_length: u64,
+            selector: u64,
+            start: u64,
+            length: u64,
+        ) -> u64;
+    }
+}
+
+/// The list run.
+pub fn run(image: &mut [u8], memory: &mut [u8], events: &[u8], answers: &mut [u8]) -> Ran {
+    // SAFETY: four slices of Rust's are non-null and do not overlap, and their lengths are their own.
+    unsafe {
+        foreign::fm3130_run(
+            image.as_mut_ptr(),
+            image.len() as u64,
+            memory.as_mut_ptr(),
+            memory.len() as u64,
+            events.as_ptr(),
+            events.len() as u64,
+            answers.as_mut_ptr(),
+            answers.len() as u64,
+        )
+    }
+}
+
+/// Writes the fresh image; the number of 01's table.
+pub fn fresh(image: &mut [u8]) -> u64 {
+    // SAFETY: a slice of Rust's is non-null, and its length is its own.
+    unsafe { foreign::fm3130_fresh(image.as_mut_ptr(), image.len() as u64) }
+}
+
+/// The viewer's number.
+pub fn view_number(image: &[u8], memory: &[u8], selector: u64, start: u64, length: u64) -> u64 {
+    // SAFETY: both slices are non-null and only read, and their lengths are their own.
+    unsafe {
+        foreign::fm3130_view_number(
+            image.as_ptr(),
+            image.len() as u64,
+            memory.as_ptr(),
+            memory.len() as u64,
+            selector,
+            start,
+            length,
+        )
+    }
+}

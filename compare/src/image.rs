@@ -1,0 +1,106 @@
+// SPDX-License-Identifier: Apache-2.0
+//! The second program's device as the 64 bytes of docs/IMAGE.md, and which images that page accepts.
+
+use second::device::{LogicalDevice, Phase, Transfer};
+use second::{Device, Power};
+
+pub const IMAGE_BYTES: usize = 64;
+
+/// Byte 26: the phase's number.
+fn phase_number(phase: Phase) -> u8 {
+    match phase {
+        Phase::BetweenTransfers => 0,
+        Phase::SlaveByte => 1,
+        Phase::MemoryAddressHighByte => 2,
+        Phase::MemoryAddressLowByte => 3,
+        Phase::CompanionAddressByte => 4,
+        Phase::WriteData(LogicalDevice::Memory) => 5,
+        Phase::WriteData(LogicalDevice::Companion) => 6,
+        Phase::ReadData(LogicalDevice::Memory) => 7,
+        Phase::ReadData(LogicalDevice::Companion) => 8,
+    }
+}
+
+/// Byte 28: the bits received so far, or the byte that is sent.
+fn byte_under_way(transfer: &Transfer) -> u8 {
+    match transfer.phase {
+        Phase::BetweenTransfers => 0,
+        Phase::ReadData(_) if transfer.clocks == 0 => 0,
+        Phase::ReadData(_) => transfer.byte_sent,
+        _ => transfer.received_bits[..usize::from(transfer.clocks)]
+            .iter()
+            .fold(0, |byte, bit| byte * 2 + u8::from(*bit)),
+    }
+}
+
+/// The image of the second program's device.
+pub fn of(device: &Device) -> [u8; IMAGE_BYTES] {
+    let mut image = [0; IMAGE_BYTES];
+    image[..15].copy_from_slice(&device.registers);
+    let core = &device.core;
+    let calendar = [
+        core.seconds,
+        core.minutes,
+        core.hours,
+        core.day,
+        core.date,
+        core.month,
+        core.year,
+    ];
+    image[15..22].copy_from_slice(&calendar);
+    image[22] = device.companion_address;
+    image[23..25].copy_from_slice(&device.memory_address.to_be_bytes());
+    image[25] = match device.power {
+        Power::On => 0,
+        Power::Backup => 1,
+        Power::Gone => 2,
+    };
+    let transfer = &device.transfer;
+    image[26] = phase_number(transfer.phase);
+    if transfer.phase != Phase::BetweenTransfers {
+        image[27] = transfer.clocks;
+        image[28] = byte_under_way(transfer);
+    }
+    if transfer.phase == Phase::MemoryAddressLowByte {
+        image[29] = transfer.memory_address_high_byte;
+    }
+    image[61..].copy_from_slice(&[0x31, 0x30, 0x01]);
+    image
+}
+
+/// The bits of each of the first 22 bytes that are not fixed at 0: the registers, then the core.
+const FREE_BITS: [u8; 22] = [
+    0xFF, 0xBF, 0x7F, 0x7F, 0x3F, 0x07, 0x3F, 0x1F, 0xFF, 0xFF, 0xFF, 0xBF, 0xBF, 0x9F, 0xFF, 0x7F,
+    0x7F, 0x3F, 0x07, 0x3F, 0x1F, 0xFF,
+];
+
+/// Whether bytes 26 to 29 stand for a transfer within the limits.
+fn phase_within(phase: u8, clocks: u8, byte: u8, first: u8) -> bool {
+    let fits = clocks <= 8 && u16::from(byte) < (1 << clocks);
+    let alone = first == 0;
+    match phase {
+        0 => clocks == 0 && byte == 0 && alone,
+        1 => fits && alone && (clocks < 8 || [0xA0, 0xA1, 0xD0, 0xD1].contains(&byte)),
+        2 | 5 | 6 => fits && alone,
+        3 => fits,
+        4 => fits && alone && (clocks < 8 || byte <= 0x0E),
+        7 | 8 => clocks <= 8 && alone && (clocks > 0 || byte == 0),
+        _ => false,
+    }
+}
+
+/// Whether docs/IMAGE.md accepts an image.
+pub fn is_accepted(image: &[u8]) -> bool {
+    image.len() == IMAGE_BYTES
+        && image
+            .iter()
+            .zip(FREE_BITS)
+            .all(|(byte, free)| byte & !free == 0)
+        && image[22] <= 14
+        && image[23] <= 0x1F
+        && image[25] <= 2
+        && phase_within(image[26], image[27], image[28], image[29])
+        && (image[25] == 0 || image[26] == 0)
+        && image[30..61].iter().all(|byte| *byte == 0)
+        && image[61..] == [0x31, 0x30, 0x01]
+}

@@ -1,0 +1,7 @@
+-- SPDX-License-Identifier: Apache-2.0
+pub mod Lists
+pub mod Images
+pub mod Runs
+pub mod Views
+pub mod Pieces
+pub mod Unique

@@ -1,0 +1,6 @@
+-- SPDX-License-Identifier: Apache-2.0
+pub mod Layout
+pub mod Image
+pub mod Run
+pub mod Fresh
+pub mod View

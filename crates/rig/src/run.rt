@@ -1,0 +1,115 @@
+// SPDX-License-Identifier: Apache-2.0
+// A list of events on a state's image and the lent buffers, and the fresh image. All that can be refused is tested
+// first. The state is read once, its limits hold through all events, and it is written once at the end.
+ghost use mathlib.Core.Path.{_≡_};
+ghost use mathlib.Core.Bool.{true};
+ghost use Prim.Native.Nat.{_≤_};
+ghost use lib.ListN.{length};
+ghost use Rattle.device.specs.Chip.{memorySize};
+ghost use Rattle.device.specs.Limits.{wellFormed};
+ghost use Rattle.rig.specs.Run.{allKnown, RanThrough, RunSettled};
+ghost use Rattle.rig.specs.Fresh.{FreshSettled};
+use crate::Decoded;
+use crate::Ran;
+use crate::bytes::copy;
+use crate::image::LENGTH;
+use crate::image::decode;
+use crate::image::image_of;
+use crate::image::write_image;
+use device::State;
+use device::numbers::ACCEPTED;
+use device::numbers::SHORT_ANSWERS;
+use device::numbers::UNKNOWN_EVENT;
+use device::numbers::WRONG_MEMORY;
+use device::numbers::WRONG_STATE;
+
+// The bytes of memory.
+pub const MEMORY: usize = 8192;
+
+// Whether every event byte is one of the eight. All are tested, with no way out of the loop, so that many go at once.
+fn all_known(events: &[u8]) -> bool
+    ensures { λ r. ⌜ r ≡ allKnown (now (events .entry)) ⌝ }
+{
+    let mut known = true;
+    let mut i = 0;
+    while i < events.len() {
+        known = known & (events[i] <= 7);
+        i += 1;
+    }
+    known
+}
+
+// All events, one by one, from a well-formed state: the state they lead to. The answers go to the front of their
+// buffer.
+fn run_events(state: State, memory: &mut [u8], events: &[u8], answers: &mut [u8]) -> State
+    requires { ⌜ (wellFormed state ≡ true) × (length (now memory) ≡ memorySize) ⌝ }
+    requires { ⌜ (allKnown (now events) ≡ true) × (length (now events) ≤ length (now answers)) ⌝ }
+    ensures { λ r. ⌜ RanThrough state (now (memory .entry)) (now (events .entry)) (now (answers .entry))
+        r (now (memory .exit)) (now (answers .exit)) ⌝ }
+{
+    let mut at = state;
+    let mut i = 0;
+    while i < events.len() {
+        let done = at.advance(memory, events[i]);
+        answers[i] = done.answer;
+        let next = done.state;
+        at = next;
+        i += 1;
+    }
+    at
+}
+
+// What a refused list run returns.
+fn refuse(number: u8) -> Ran
+    ensures { λ r. ⌜ r ≡ record { number = number; count = 0 } ⌝ }
+{
+    Ran {
+        number: number as u64,
+        count: 0,
+    }
+}
+
+// The list run: refused by the first number that fits, with nothing written; or every event done, its answer written,
+// and the image of the state that the events lead to.
+#[no_mangle]
+pub extern "C" fn fm3130_run(
+    image: &mut [u8],
+    memory: &mut [u8],
+    events: &[u8],
+    answers: &mut [u8],
+) -> Ran
+    ensures { λ r. ⌜ RunSettled (now (image .entry)) (now (memory .entry)) (now (events .entry)) (now (answers .entry))
+        r (now (image .exit)) (now (memory .exit)) (now (answers .exit)) ⌝ }
+{
+    if memory.len() != MEMORY {
+        return refuse(WRONG_MEMORY);
+    }
+    let Decoded::Good(state) = decode(image) else {
+        return refuse(WRONG_STATE);
+    };
+    if !all_known(events) {
+        return refuse(UNKNOWN_EVENT);
+    }
+    if answers.len() < events.len() {
+        return refuse(SHORT_ANSWERS);
+    }
+    let last = run_events(state, memory, events, answers);
+    write_image(last, image);
+    Ran {
+        number: ACCEPTED as u64,
+        count: events.len() as u64,
+    }
+}
+
+// Writes the fresh state's image, where the buffer has 64 bytes; any other is left as it is.
+#[no_mangle]
+pub extern "C" fn fm3130_fresh(image: &mut [u8]) -> u64
+    ensures { λ r. ⌜ FreshSettled (now (image .entry)) r (now (image .exit)) ⌝ }
+{
+    if image.len() != LENGTH {
+        return WRONG_STATE as u64;
+    }
+    let written = image_of(State::fresh());
+    copy(&written, image);
+    ACCEPTED as u64
+}
