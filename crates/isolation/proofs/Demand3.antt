@@ -20,6 +20,7 @@ use Rattle.isolation.specs.Merge.{Said, by, eventsOf, keepIf, picked}
 use Rattle.isolation.specs.Party.{isMemory, isCompanion, BusEvent, PartyEvent}
 use Rattle.isolation.specs.Apart.{run, answersOf}
 use Rattle.isolation.specs.Demand.{IfWritten, WritesSteady, Isolated}
+use Rattle.rig.specs.Run.{runOf}
 use Rattle.isolation.specs.Demand3.{Held, afterEvent, answerTo, afterEvents, answersTo, byteOf, bytesOf, linesOf}
 use Rattle.isolation.specs.Demand3.{protection, WritesSteadyIn, Demanded, DemandThree}
 use Rattle.isolation.proofs.Demand.{isolation}
@@ -71,11 +72,13 @@ module _ (u : Bus) (e : BusEvent fm3130) where
 
 -- a list of events
 run-is : (u : Bus) (es : Events) → afterEvents (heldOf u) (bytesOf es) ≡ heldOf (run fm3130 u es)
+unfolding runOf
 run-is u [] = refl
 run-is u (e ∷ es) = ap (λ (h : Held). afterEvents h (bytesOf es)) (after-is u e) ∙ run-is (step fm3130 u e .state) es
 
 answers-are : (u : Bus) (es : Events)
     → answersTo (heldOf u) (bytesOf es) ≡ map byteFor (answersOf fm3130 (λ a. a) u es)
+unfolding runOf
 answers-are u [] = refl
 answers-are u (e ∷ es) =
     let rest = ap (λ (h : Held). answersTo h (bytesOf es)) (after-is u e) ∙ answers-are (step fm3130 u e .state) es in
@@ -87,6 +90,7 @@ line-bit n false = omega arith
 
 lines-are : (u : Bus) (es : Events)
     → linesOf (answersTo (heldOf u) (bytesOf es)) ≡ map bitFor (answersOf fm3130 (λ a. a .seen) u es)
+unfolding runOf
 lines-are u [] = refl
 lines-are u (e ∷ es) =
     let o = step fm3130 u e in

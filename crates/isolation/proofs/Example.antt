@@ -28,6 +28,7 @@ use Rattle.device.specs.Event.{happening, eventOn}
 use Rattle.isolation.specs.Merge.{calling, moving, eventsOf}
 use Rattle.isolation.specs.Party.{to, BusEvent, Whole}
 use Rattle.isolation.specs.Demand.{WhereWritten, IfWritten, done, one, two, inside, Merge}
+use Rattle.rig.specs.Run.{runOf}
 use Rattle.isolation.specs.Demand3.{Held, afterEvent, afterEvents, byteOf, bytesOf, protection}
 use Rattle.isolation.specs.Demand3.{WritesSteadyIn, Demanded}
 use Rattle.isolation.specs.Example.{clocks, bitsOf, stored, register, value}
@@ -107,6 +108,6 @@ example-demanded m =
 pub example-outcome : (m : List ℕ) → let h = afterEvents (started m) (bytesOf (eventsOf mergedList)) in
     (h .memory ≡ set m 5 0x5A) × (h .state .address ≡ 6) × (h .state .companion .registers .alarm .seconds ≡ 0x15)
     × (h .state .companion .address ≡ 0x0A) × (h .state .companion .core .seconds ≡ 2)
-unfolding happening eventOn lined clocked receivedAt kept pushed sentBit placeAt opened answers slaveNames
+unfolding runOf happening eventOn lined clocked receivedAt kept pushed sentBit placeAt opened answers slaveNames
     putByte aimOf storeOf tickOf nextOf isValid inField monthLength countOf stepOf
 example-outcome m = (refl, refl, refl, refl, refl)

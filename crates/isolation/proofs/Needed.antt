@@ -17,6 +17,7 @@ use Rattle.wire.specs.declared.Side.the-variants.{Companion}
 use Rattle.companion.specs.Part.{aimOf, storeOf, tickOf}
 use Rattle.device.specs.Chip.{fm3130}
 use Rattle.device.specs.Event.{happening, eventOn}
+use Rattle.rig.specs.Run.{runOf}
 use Rattle.isolation.specs.Merge.{calling, moving, eventsOf}
 use Rattle.isolation.specs.Party.{to, Whole}
 use Rattle.isolation.specs.Demand.{done, one, two, Merge}
@@ -49,12 +50,12 @@ module _ (m : List ℕ) (h : 5 < length m) (n : getD m 5 0 ≡ 0x5A → ⊥) whe
   pub protection-needed :
       Demanded (started m) (bytesOf memoryList) (bytesOf protectingList)
       (bytesOf (eventsOf protectedList)) protectedList → ⊥
-  unfolding happening eventOn lined clocked receivedAt kept pushed sentBit placeAt opened answers slaveNames
+  unfolding runOf happening eventOn lined clocked receivedAt kept pushed sentBit placeAt opened answers slaveNames
       putByte refusedByte aimOf storeOf
   protection-needed r = unwritten m h n (r .memory)
 
   pub turns-needed :
       Demanded (started m) (bytesOf memoryList) (bytesOf companionList) (bytesOf (eventsOf brokenList)) brokenList → ⊥
-  unfolding happening eventOn lined clocked receivedAt kept pushed sentBit placeAt opened answers slaveNames
+  unfolding runOf happening eventOn lined clocked receivedAt kept pushed sentBit placeAt opened answers slaveNames
       putByte aimOf storeOf tickOf
   turns-needed r = unwritten m h n (r .memory)

@@ -20,6 +20,7 @@ use Rattle.device.specs.Event.{eventOf}
 use Rattle.device.specs.Answer.{answerByte}
 use Rattle.device.specs.declared.Power.the-variants.{On}
 use Rattle.device.specs.declared.State.{State}
+use Rattle.rig.specs.Run.{runOf}
 use Rattle.isolation.specs.Merge.{eventsOf, picked}
 use Rattle.isolation.specs.Party.{to, isMemory, isCompanion, BusEvent, PartyEvent, Whole}
 use Rattle.isolation.specs.Demand.{Merge, IfWritten}
@@ -35,14 +36,12 @@ afterEvent h n = let d = eventOf (h .state) (h .memory) n in record { state = d 
 abbrev pub answerTo : Held → ℕ → ℕ
 answerTo h n = let d = eventOf (h .state) (h .memory) n in answerByte (d .state) (d .line)
 
--- 01, How tight the statements must be: "the list being the events one by one".
+-- A list of event bytes: the list run's own definition.
 abbrev pub afterEvents : Held → List ℕ → Held
-afterEvents h [] = h
-afterEvents h (n ∷ ns) = afterEvents (afterEvent h n) ns
+afterEvents h ns = let r = runOf (h .state) (h .memory) ns in record { state = r .state; memory = r .memory }
 
 abbrev pub answersTo : Held → List ℕ → List ℕ
-answersTo h [] = []
-answersTo h (n ∷ ns) = answerTo h n ∷ answersTo (afterEvent h n) ns
+answersTo h ns = runOf (h .state) (h .memory) ns .answers
 
 -- 01, Event bytes and answer bytes: "0 Start; 1 Stop; 2 Clock with the master's data line low; 3 Clock with it high;
 -- 4 one-second tick".

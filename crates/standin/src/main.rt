@@ -95,7 +95,13 @@ fn run_events(image: &mut [u8], memory: &mut [u8], events: &[u8], answers: &mut 
 }
 
 // A frame of events; false where the input ends before its end.
-fn run_frame(image: &mut [u8], memory: &mut [u8], events: &mut [u8], answers: &mut [u8], length: usize) -> bool {
+fn run_frame(
+    image: &mut [u8],
+    memory: &mut [u8],
+    events: &mut [u8],
+    answers: &mut [u8],
+    length: usize,
+) -> bool {
     if !read_events(events, length) {
         return false;
     }

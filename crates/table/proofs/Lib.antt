@@ -2,3 +2,4 @@
 pub mod Events
 pub mod Stored
 pub mod Protected
+pub mod Table

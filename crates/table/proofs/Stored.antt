@@ -4,7 +4,7 @@
 -- device pulls the ninth clock's line low only where the byte was put.
 -- Assumes nothing.
 use Prim.Native.Nat.{ℕ, zero, suc, _+_, _<_}
-use mathlib.Core.Path.{_≡_, refl, sym, ap, _∙_}
+use mathlib.Core.Path.{_≡_, refl, sym, ap, subst, _∙_}
 use mathlib.Core.Bool.{Bool, true, false, false≢true, true≢false}
 use mathlib.Core.List.{List, [], _∷_, _++_}
 use native.Mathlib.Omega.{arith}
@@ -28,6 +28,7 @@ use Rattle.device.specs.Event.{eventOf, still}
 use Rattle.device.specs.Limits.{wellFormed}
 use Rattle.device.specs.declared.Power.the-variants.{On}
 use Rattle.device.specs.declared.State.{State}
+use Rattle.rig.specs.Run.{runOf}
 use Rattle.device.proofs.Entry.{limits-of}
 use Rattle.device.proofs.Wellformed.{event-ok}
 use Rattle.table.specs.Stored.{after, memoryAfter, clockEvent, Rest, none, bit, tick, power, Byte, AtData, Pulls, StoredAt, AcknowledgedStored}
@@ -49,7 +50,9 @@ record Left (m : List ℕ) (a g w : ℕ) (s : State) (m′ : List ℕ) : Type 0 
 onward : (X : State → List ℕ → Type 0) (s : State) (m es : List ℕ) (e : ℕ) (d : Done) → eventOf s m e ≡ d
     → X (after (d .state) (d .memory) es) (memoryAfter (d .state) (d .memory) es)
     → X (after s m (e ∷ es)) (memoryAfter s m (e ∷ es))
-onward X s m es e d q x = rw q x
+unfolding runOf
+onward X s m es e d q x =
+    subst (λ (z : Done). X (after (z .state) (z .memory) es) (memoryAfter (z .state) (z .memory) es)) (sym q) x
 
 held-tick : {s : State} {p : Phase} {a g : ℕ} → Held s p a g → Held (withCompanion s (tickOf (s .companion))) p a g
 held-tick {s} h = record { on = h .on; phase = h .phase; address = h .address; guard = tick-guard (s .companion) ∙ h .guard }
@@ -62,6 +65,7 @@ record Same (b w : ℕ) (p : Phase) (a g : ℕ) (m : List ℕ) (s : State) (m′
 
 late : {b w : ℕ} {es : List ℕ} → Rest 0 b w es → (m : List ℕ) (s : State) (p : Phase) (a g : ℕ) → Held s p a g
     → Same b w p a g m (after s m es) (memoryAfter s m es)
+unfolding runOf
 late none m s p a g h = record { byte = refl; state = h; memory = refl }
 late {b} {w} (tick {es = es} r) m s p a g h =
     onward (Same b w p a g m) s m es 4 (still (withCompanion s (tickOf (s .companion))) m) (tick-event s m (h .on))
@@ -110,12 +114,14 @@ early {w = w} (power {es = es} r) k q m s a g h =
 pub after-append : (s : State) (m xs ys : List ℕ)
     → (after s m (xs ++ ys) ≡ after (after s m xs) (memoryAfter s m xs) ys)
     × (memoryAfter s m (xs ++ ys) ≡ memoryAfter (after s m xs) (memoryAfter s m xs) ys)
+unfolding runOf
 after-append s m [] ys = (refl, refl)
 after-append s m (e ∷ xs) ys = after-append (eventOf s m e .state) (eventOf s m e .memory) xs ys
 
 -- the memory's length, and that the address is inside it, at every point of a run
 inside : (s : State) (m es : List ℕ) → wellFormed s ≡ true → length m ≡ memorySize
     → (wellFormed (after s m es) ≡ true) × (length (memoryAfter s m es) ≡ memorySize)
+unfolding runOf
 inside s m [] w h = (w, h)
 inside s m (e ∷ es) w h = let o = event-ok s m e w h in inside (eventOf s m e .state) (eventOf s m e .memory) es (o .state) (o .memory)
 
@@ -135,7 +141,7 @@ ninth s m d w a g h =
 byte-stored : (s : State) (m es : List ℕ) (w : ℕ) (d : Bool) → AtData s → Byte w es → s .address < length m
     → Pulls (after s m es) (memoryAfter s m es)
     → StoredAt m (s .address) w (memoryAfter (after s m es) (memoryAfter s m es) (clockEvent d ∷ []))
-unfolding putByte refusedByte kept
+unfolding putByte refusedByte kept runOf
 byte-stored s m es w d start r h pulls =
     let g = guardOf (s .companion) in
     let a = s .address in

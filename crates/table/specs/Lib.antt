@@ -1,3 +1,5 @@
 -- SPDX-License-Identifier: Apache-2.0
 pub mod Stored
 pub mod Protected
+pub mod Script
+pub mod Table

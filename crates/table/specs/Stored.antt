@@ -20,15 +20,14 @@ use Rattle.device.specs.Event.{eventOf}
 use Rattle.device.specs.Limits.{wellFormed}
 use Rattle.device.specs.declared.Power.the-variants.{On}
 use Rattle.device.specs.declared.State.{State}
+use Rattle.rig.specs.Run.{runOf}
 
--- Auxiliary: the events one by one.
+-- Auxiliary: state and memory after a list of events, one by one: the list run's own.
 abbrev pub after : State → List ℕ → List ℕ → State
-after s m [] = s
-after s m (e ∷ es) = after (eventOf s m e .state) (eventOf s m e .memory) es
+after s m es = runOf s m es .state
 
 abbrev pub memoryAfter : State → List ℕ → List ℕ → List ℕ
-memoryAfter s m [] = m
-memoryAfter s m (e ∷ es) = memoryAfter (eventOf s m e .state) (eventOf s m e .memory) es
+memoryAfter s m es = runOf s m es .memory
 
 -- The event byte of a Clock.
 abbrev pub clockEvent : Bool → ℕ
