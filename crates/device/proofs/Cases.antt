@@ -4,7 +4,7 @@
 -- Assumes nothing.
 use Prim.Native.Nat.{ℕ, _/_, _≤_}
 use mathlib.Core.Path.{_≡_, refl}
-use mathlib.Core.Bool.{Bool, true, false}
+use mathlib.Core.Bool.{Bool, true, false, true≢false, false≢true}
 use mathlib.Core.List.{List}
 use native.Mathlib.Omega.{arith}
 use lib.Dec.{eqb}
@@ -16,9 +16,11 @@ use Rattle.wire.specs.declared.Phase.the-variants.{Idle}
 use Rattle.companion.specs.declared.Companion.{Companion}
 use Rattle.device.specs.Chip.{fm3130, Done}
 use Rattle.device.specs.Bus.{clockedWith}
-use Rattle.device.specs.Event.{Happening, onWire, returned, happening, eventOn}
+use Rattle.device.specs.Power.{isSupplied}
+use Rattle.device.specs.Event.{Happening, onWire, second, returned, happening, still, ticked, eventOn}
 use Rattle.device.specs.Step.{HappenedWith, Stills}
 use Rattle.device.specs.declared.Power.{Power}
+use Rattle.device.specs.declared.Power.the-variants.{On, Backup, Off}
 use Rattle.device.specs.declared.State.{State}
 use Rattle.device.specs.declared.Happened.{Happened}
 
@@ -58,3 +60,23 @@ pub happening-returned : (e : ℕ) → e ≤ 7 → (e / 2 ≡ 1 → ⊥) → (e 
     → (e ≡ 6 → ⊥) → happening e ≡ returned
 unfolding happening
 happening-returned e h k a b c d f = let seven : e ≡ 7 = omega arith in rw seven
+
+-- a tick with a supply goes to the companion, one without changes nothing
+tick-by : (p : Power) (s : State) (m : List ℕ) → s .power ≡ p → isSupplied p ≡ true
+    → eventOn p second s m ≡ still (ticked s) m
+unfolding eventOn
+tick-by On s m e h = rw e
+tick-by Backup s m e h = refl
+tick-by Off s m e h = absurd (false≢true h)
+
+pub tick-supplied : (s : State) (m : List ℕ) → isSupplied (s .power) ≡ true → eventOn (s .power) second s m ≡ still (ticked s) m
+tick-supplied s m h = tick-by (s .power) s m refl h
+
+tick-without : (p : Power) (s : State) (m : List ℕ) → isSupplied p ≡ false → eventOn p second s m ≡ still s m
+unfolding eventOn
+tick-without On s m h = absurd (true≢false h)
+tick-without Backup s m h = absurd (true≢false h)
+tick-without Off s m h = refl
+
+pub tick-unsupplied : (s : State) (m : List ℕ) → isSupplied (s .power) ≡ false → eventOn (s .power) second s m ≡ still s m
+tick-unsupplied s m h = tick-without (s .power) s m h

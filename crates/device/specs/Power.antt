@@ -2,14 +2,21 @@
 -- The supplies (01, Ticks, alarm, power).
 --   backedUp, dark, restored, powered   the state after main power was lost with backup; with both supplies gone; after main
 --                                       power returned to backup; to no supply
---   fresh                               the fresh state
+--   isSupplied, fresh                   a supply is present; the fresh state
 -- Assumes nothing.
+use mathlib.Core.Bool.{Bool, true, false}
 use Rattle.wire.specs.declared.Phase.the-variants.{Idle}
 use Rattle.companion.specs.Part.{backedOf, lostOf, returnedOf}
 use Rattle.companion.specs.declared.Companion.{Companion}
 use Rattle.device.specs.declared.Power.{Power}
 use Rattle.device.specs.declared.Power.the-variants.{On, Backup, Off}
 use Rattle.device.specs.declared.State.{State}
+
+-- "Power or backup is present."
+abbrev pub isSupplied : Power → Bool
+isSupplied On = true
+isSupplied Backup = true
+isSupplied Off = false
 
 -- "Power lost: the transfer ends, both addresses become 0."
 abbrev pub backedUp : State → State

@@ -3,7 +3,7 @@
 ghost use mathlib.Core.Path.{_≡_};
 ghost use Rattle.wire.specs.Machine.{start, stop, clock};
 ghost use Rattle.device.specs.Event.{onWire, second, lost, gone, returned, eventOn};
-ghost use Rattle.device.specs.Power.{dark, poweredWith, fresh};
+ghost use Rattle.device.specs.Power.{isSupplied, dark, poweredWith, fresh};
 ghost use Rattle.device.specs.Bus.{withCompanion};
 ghost use Rattle.device.specs.Step.{Ready, HappenedWith, Stills};
 use crate::Happened;
@@ -11,6 +11,17 @@ use crate::Power;
 use crate::State;
 use companion::Companion;
 use wire::Phase;
+
+// Whether main power or backup is present.
+fn is_supplied(power: Power) -> bool
+    ensures { λ r. ⌜ r ≡ isSupplied power ⌝ }
+{
+    match power {
+        Power::On => true,
+        Power::Backup => true,
+        Power::Off => false,
+    }
+}
 
 impl State {
     // A Clock: heard only while main power is present.
@@ -70,17 +81,16 @@ impl State {
         }
     }
 
-    // A one-second tick: goes to the companion while a supply is present.
+    // A one-second tick: goes to the companion while a supply is present. The companion's tick is called from one place.
     pub(crate) fn tick(self) -> State
         ensures { λ r. ⌜ Stills r (λ m. eventOn (self .power) second self m) ⌝ }
     {
         let power = self.power;
         let companion = self.companion;
-        match power {
-            Power::On => self.with_companion(companion.tick()),
-            Power::Backup => self.with_companion(companion.tick()),
-            Power::Off => self,
+        if is_supplied(power) {
+            return self.with_companion(companion.tick());
         }
+        self
     }
 
     // Main power lost, backup present: the transfer ends, both addresses become 0.

@@ -1,0 +1,193 @@
+// SPDX-License-Identifier: Apache-2.0
+//! Puts clocks together to bytes, and parts of a run of ticks to one run.
+
+use fm3130::{event, Phase, Pin, Power, State};
+
+use super::happening::{BusByte, BusClock, Direction, Happening, PowerChange};
+use super::meaning::{self, Meaning};
+use super::moment::{Moment, TickRun};
+use super::play::Observer;
+use super::resume::{earlier_clocks, Earlier};
+use super::ticks::TickReport;
+use crate::failure::Outcome;
+
+/// Someone who wants to know what happened.
+pub trait Listener {
+    /// One thing happened; the ACS pin is the one after it.
+    fn happening(&mut self, happening: &Happening, pin: Pin) -> Outcome;
+
+    /// Nothing more happens.
+    fn finish(&mut self) -> Outcome {
+        Ok(())
+    }
+}
+
+/// Puts events together and tells listeners.
+///
+/// It counts clocks from Start to Start as the master does: nine to a byte. What a byte means is
+/// asked of the device's states, so nothing of the device's rules is repeated here.
+pub struct Grouping<'run> {
+    listeners: Vec<&'run mut dyn Listener>,
+    /// The byte under way.
+    group: Earlier,
+    ticks: Option<TickReport>,
+    /// The ACS pin after the events told.
+    pin: Pin,
+    /// A Start came, and since then neither a Stop nor a loss of power.
+    is_in_transfer: bool,
+}
+
+impl<'run> Grouping<'run> {
+    /// A grouping that tells some listeners, of a run that begins in a state.
+    pub fn new(listeners: Vec<&'run mut dyn Listener>, state: &State) -> Grouping<'run> {
+        Grouping {
+            listeners,
+            group: earlier_clocks(state),
+            ticks: None,
+            pin: state.pin(),
+            is_in_transfer: state.phase != Phase::Idle,
+        }
+    }
+
+    fn tell(&mut self, happening: &Happening) -> Outcome {
+        for listener in &mut self.listeners {
+            listener.happening(happening, self.pin)?;
+        }
+        Ok(())
+    }
+
+    fn tell_ticks(&mut self) -> Outcome {
+        match self.ticks.take() {
+            Some(report) => {
+                self.pin = report.after.pin();
+                self.tell(&Happening::Ticks(report))
+            }
+            None => Ok(()),
+        }
+    }
+
+    /// Tells of the clocks so far, whether or not they are a whole byte.
+    fn tell_group(&mut self) -> Outcome {
+        let group = std::mem::take(&mut self.group);
+        let Some(first) = group.first else {
+            return Ok(());
+        };
+        let byte = BusByte {
+            direction: direction(&first),
+            is_stray: !self.is_in_transfer,
+            clocks: group.clocks,
+            meaning: String::new(),
+            label: String::new(),
+        };
+        let Meaning { words, label } = match group.eighth {
+            _ if byte.is_stray => meaning::of_stray_clocks(),
+            Some(eighth) => meaning::of_whole_byte(&first, &eighth, byte.value()),
+            None => meaning::of_part_byte(&first, byte.clocks.len()),
+        };
+        self.tell(&Happening::Byte(BusByte {
+            meaning: words,
+            label,
+            ..byte
+        }))
+    }
+
+    /// Clocks outside a transfer are no byte, so that nothing happens inside of one.
+    fn tell_stray_clocks(&mut self) -> Outcome {
+        match self.is_in_transfer {
+            true => Ok(()),
+            false => self.tell_group(),
+        }
+    }
+
+    fn start(&mut self) -> Outcome {
+        self.tell_group()?;
+        let is_repeated = self.is_in_transfer;
+        self.is_in_transfer = true;
+        self.tell(&Happening::Start { is_repeated })
+    }
+
+    fn stop(&mut self) -> Outcome {
+        self.tell_group()?;
+        self.is_in_transfer = false;
+        self.tell(&Happening::Stop)
+    }
+
+    fn clock(&mut self, moment: &Moment) -> Outcome {
+        self.pin = moment.answer.pin();
+        self.group.first.get_or_insert(moment.before);
+        self.group.clocks.push(BusClock {
+            master_is_high: moment.master_is_high(),
+            line_is_high: moment.answer.line_is_high(),
+            device_pulls: moment.device_pulls(),
+        });
+        match self.group.clocks.len() {
+            8 => self.group.eighth = Some(moment.after),
+            9 => return self.tell_group(),
+            _ => {}
+        }
+        Ok(())
+    }
+
+    /// A loss of power ends what was under way; other power events leave it.
+    fn power(&mut self, moment: &Moment) -> Outcome {
+        self.tell_stray_clocks()?;
+        let is_lost = moment.before.power == Power::On && moment.after.power != Power::On;
+        if is_lost {
+            self.tell_group()?;
+            self.is_in_transfer = false;
+        }
+        self.pin = moment.answer.pin();
+        let change = PowerChange {
+            event: moment.event,
+            before: moment.before.power,
+            inside: self.clocks_under_way(),
+        };
+        self.tell(&Happening::Power(change))
+    }
+
+    /// The clocks of the byte under way, if there are any.
+    fn clocks_under_way(&self) -> Option<usize> {
+        let clocks = self.group.clocks.len();
+        (clocks > 0).then_some(clocks)
+    }
+}
+
+impl Observer for Grouping<'_> {
+    fn moment(&mut self, moment: &Moment) -> Outcome {
+        self.tell_ticks()?;
+        match moment.event {
+            event::START => self.start(),
+            event::STOP => self.stop(),
+            event::CLOCK_LOW | event::CLOCK_HIGH => self.clock(moment),
+            _ => self.power(moment),
+        }
+    }
+
+    fn ticks(&mut self, run: &TickRun) -> Outcome {
+        self.tell_stray_clocks()?;
+        let inside = self.clocks_under_way();
+        match &mut self.ticks {
+            Some(report) => report.extend(run),
+            None => self.ticks = Some(TickReport::of(run, inside)),
+        }
+        Ok(())
+    }
+
+    fn finish(&mut self) -> Outcome {
+        self.tell_ticks()?;
+        self.tell_group()?;
+        for listener in &mut self.listeners {
+            listener.finish()?;
+        }
+        Ok(())
+    }
+}
+
+/// Who sends a byte, by the state before its first clock.
+fn direction(first: &State) -> Direction {
+    match first.phase {
+        Phase::Idle => Direction::Unheard,
+        Phase::Read(_) => Direction::Read,
+        _ => Direction::Write,
+    }
+}

@@ -1,0 +1,20 @@
+// SPDX-License-Identifier: Apache-2.0
+//! What happens on the bus, from single events up to bytes with a meaning.
+//!
+//! [`play`] lets a device do the events of a source and shows every [`Moment`] to observers. One
+//! observer is [`Grouping`]: it puts clocks together to bytes, and tells listeners what happened.
+
+mod grouping;
+mod happening;
+mod meaning;
+mod moment;
+mod play;
+mod resume;
+mod ticks;
+
+pub use grouping::{Grouping, Listener};
+pub use happening::{BusByte, BusClock, Direction, Happening, PowerChange};
+pub use meaning::named_by;
+pub use moment::{Moment, TickRun};
+pub use play::{play, Observer, Outputs};
+pub use ticks::TickReport;

@@ -1,0 +1,89 @@
+// SPDX-License-Identifier: Apache-2.0
+//! One event and all that is known about it.
+
+use fm3130::{event, Answer, Phase, Pin, State};
+
+/// An event that is no tick: what was before, what the device answered, what is after.
+#[derive(Clone, Copy, Debug)]
+pub struct Moment {
+    /// The event byte.
+    pub event: u8,
+    /// The answer byte.
+    pub answer: Answer,
+    /// The state before the event.
+    pub before: State,
+    /// The state after the event.
+    pub after: State,
+}
+
+impl Moment {
+    /// The level that the master gives its line; it is released in all but one event.
+    pub fn master_is_high(&self) -> bool {
+        self.event != event::CLOCK_LOW
+    }
+
+    /// Whether the device itself pulls the line low. Where the master releases it, the answer says
+    /// so; where the master pulls too, it follows from the byte under way.
+    pub fn device_pulls(&self) -> bool {
+        if self.master_is_high() {
+            return !self.answer.line_is_high();
+        }
+        match (self.before.phase, self.before.clocks) {
+            (Phase::Idle, _) | (Phase::Read(_), 8) => false,
+            // The byte is fixed by the first clock, so it is the state after that has it.
+            (Phase::Read(_), clocks) => (self.after.byte << clocks) & 0x80 == 0,
+            // A byte that is not acknowledged has ended the transfer: eight clocks done means that
+            // the device acknowledges.
+            (_, clocks) => clocks == 8,
+        }
+    }
+}
+
+/// Ticks without any other event between them.
+#[derive(Clone, Debug)]
+pub struct TickRun {
+    /// How many.
+    pub count: u64,
+    /// The state before the first.
+    pub before: State,
+    /// The state after the last.
+    pub after: State,
+    /// The ticks, counted from 1, after which the pin was another than before.
+    pub pin_changes: Vec<(u64, Pin)>,
+}
+
+#[cfg(test)]
+mod tests {
+    use super::*;
+    use fm3130::Device;
+
+    /// What the line would be if the master released it: an honest test of who pulls.
+    fn pulls_by_trial(device: &Device) -> bool {
+        let answer = device.clone().step(event::CLOCK_HIGH).unwrap();
+        !Answer(answer).line_is_high()
+    }
+
+    #[test]
+    fn who_pulls_agrees_with_a_trial_on_random_lists() {
+        let mut pulled = 0;
+        for list in second::generate::random(7, 100_000) {
+            let mut device = Device::fresh();
+            device.memory_mut().copy_from_slice(&list.device().memory);
+            for event in list.events {
+                let (before, trial) = (device.state(), pulls_by_trial(&device));
+                let answer = Answer(device.step(event).unwrap());
+                let moment = Moment {
+                    event,
+                    answer,
+                    before,
+                    after: device.state(),
+                };
+                if event == event::CLOCK_LOW || event == event::CLOCK_HIGH {
+                    assert_eq!(moment.device_pulls(), trial);
+                    pulled += u64::from(trial);
+                }
+            }
+        }
+        assert!(pulled > 1000);
+    }
+}

@@ -1,0 +1,142 @@
+// SPDX-License-Identifier: Apache-2.0
+//! Lets a device do the events of a source, chunk by chunk.
+
+use fm3130::{event, Answer, Device, Pin, Refusal};
+
+use super::moment::{Moment, TickRun};
+use crate::failure::{Failure, Outcome};
+use crate::files::Replacement;
+use crate::progress::Progress;
+use crate::source::{Source, CHUNK};
+
+/// Someone who looks at every event.
+pub trait Observer {
+    /// An event that is no tick.
+    fn moment(&mut self, moment: &Moment) -> Outcome;
+
+    /// Ticks without any other event between them; a long run of ticks comes in several parts.
+    fn ticks(&mut self, ticks: &TickRun) -> Outcome;
+
+    /// No event follows.
+    fn finish(&mut self) -> Outcome;
+}
+
+/// Where a run goes to.
+pub struct Outputs<'run> {
+    /// Who looks at every event; if nobody does, the device runs a chunk at a time.
+    pub observers: Vec<&'run mut dyn Observer>,
+    /// Whether an observer prints words.
+    pub prints: bool,
+    /// The file for the answer bytes.
+    pub answers: Option<&'run mut Replacement>,
+}
+
+/// Does all events of a source.
+pub fn play(device: &mut Device, source: &mut dyn Source, outputs: &mut Outputs) -> Outcome {
+    let mut progress = Progress::of(source.total());
+    let mut chunk = Vec::with_capacity(CHUNK);
+    let mut answers = vec![0; CHUNK];
+    loop {
+        source.fill(&mut chunk)?;
+        if chunk.is_empty() {
+            break;
+        }
+        // A run of ticks prints its one line after the last of them.
+        let has_words = chunk.iter().any(|event| *event != event::TICK);
+        progress.give_way(outputs.prints && has_words);
+        play_chunk(device, &chunk, &mut answers, outputs)?;
+        if let Some(file) = &mut outputs.answers {
+            file.write(&answers[..chunk.len()])?;
+        }
+        progress.advance(chunk.len());
+    }
+    progress.clear();
+    for observer in &mut outputs.observers {
+        observer.finish()?;
+    }
+    Ok(())
+}
+
+/// Does the events of one chunk; the answers are left in the buffer.
+fn play_chunk(
+    device: &mut Device,
+    chunk: &[u8],
+    answers: &mut [u8],
+    outputs: &mut Outputs,
+) -> Outcome {
+    if outputs.observers.is_empty() {
+        device.run_into(chunk, answers).map_err(refused)?;
+        return Ok(());
+    }
+    let mut done = 0;
+    for run in chunk.chunk_by(|one, next| *one == event::TICK && *next == event::TICK) {
+        let answers = &mut answers[done..done + run.len()];
+        if run[0] == event::TICK {
+            play_ticks(device, run, answers, outputs)?;
+        } else {
+            play_event(device, run[0], answers, outputs)?;
+        }
+        done += run.len();
+    }
+    Ok(())
+}
+
+/// Does one event that is no tick.
+fn play_event(
+    device: &mut Device,
+    event: u8,
+    answers: &mut [u8],
+    outputs: &mut Outputs,
+) -> Outcome {
+    let before = device.state();
+    device.run_into(&[event], answers).map_err(refused)?;
+    let moment = Moment {
+        event,
+        answer: Answer(answers[0]),
+        before,
+        after: device.state(),
+    };
+    for observer in &mut outputs.observers {
+        observer.moment(&moment)?;
+    }
+    Ok(())
+}
+
+/// Does a run of ticks at once.
+fn play_ticks(
+    device: &mut Device,
+    ticks: &[u8],
+    answers: &mut [u8],
+    outputs: &mut Outputs,
+) -> Outcome {
+    let before = device.state();
+    device.run_into(ticks, answers).map_err(refused)?;
+    let run = TickRun {
+        count: ticks.len() as u64,
+        before,
+        after: device.state(),
+        pin_changes: pin_changes(before.pin(), answers),
+    };
+    for observer in &mut outputs.observers {
+        observer.ticks(&run)?;
+    }
+    Ok(())
+}
+
+/// The places in some answers, counted from 1, where the pin is another than before.
+fn pin_changes(mut pin: Pin, answers: &[u8]) -> Vec<(u64, Pin)> {
+    let mut changes = Vec::new();
+    for (index, answer) in answers.iter().enumerate() {
+        let now = Answer(*answer).pin();
+        if now != pin {
+            changes.push((index as u64 + 1, now));
+            pin = now;
+        }
+    }
+    changes
+}
+
+/// The device refuses events only if a file changed after it was tested.
+fn refused(refusal: Refusal) -> Failure {
+    Failure::Refused(format!("the device refuses the events: {refusal}"))
+}

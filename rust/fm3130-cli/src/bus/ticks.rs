@@ -1,0 +1,139 @@
+// SPDX-License-Identifier: Apache-2.0
+//! What a run of ticks did.
+
+use std::fmt;
+
+use fm3130::{registers, Pin, Power, State};
+
+use super::moment::TickRun;
+
+/// What a run of ticks did.
+#[derive(Clone, Debug, PartialEq, Eq)]
+pub struct TickReport {
+    /// How many.
+    pub count: u64,
+    /// The state before the first.
+    pub before: State,
+    /// The state after the last.
+    pub after: State,
+    /// The ticks, counted from 1, after which the pin was another than before.
+    pub pin_changes: Vec<(u64, Pin)>,
+    /// The clocks of the byte under way, if there is one.
+    pub inside: Option<usize>,
+}
+
+impl TickReport {
+    /// The report of one part of a run.
+    pub fn of(run: &TickRun, inside: Option<usize>) -> TickReport {
+        TickReport {
+            count: run.count,
+            before: run.before,
+            after: run.after,
+            pin_changes: run.pin_changes.clone(),
+            inside,
+        }
+    }
+
+    /// Adds the next part of the same run.
+    pub fn extend(&mut self, run: &TickRun) {
+        let later = run
+            .pin_changes
+            .iter()
+            .map(|(tick, pin)| (self.count + tick, *pin));
+        self.pin_changes.extend(later);
+        self.count += run.count;
+        self.after = run.after;
+    }
+
+    /// Why the calendar stood still.
+    fn reason_of_standstill(&self) -> &'static str {
+        let halted = self.before.registers[registers::CALIBRATION] & registers::OSCEN != 0;
+        if self.before.power == Power::None {
+            "no supply"
+        } else if halted {
+            "the oscillator is halted"
+        } else {
+            "the calendar is not valid"
+        }
+    }
+
+    /// The flags that the ticks set.
+    fn flags_set(&self) -> Vec<&'static str> {
+        let rose =
+            !self.before.registers[registers::CONTROL] & self.after.registers[registers::CONTROL];
+        [(registers::AF, "AF set"), (registers::CF, "CF set")]
+            .into_iter()
+            .filter(|(flag, _)| rose & flag != 0)
+            .map(|(_, words)| words)
+            .collect()
+    }
+}
+
+impl fmt::Display for TickReport {
+    fn fmt(&self, formatter: &mut fmt::Formatter<'_>) -> fmt::Result {
+        let plural = if self.count == 1 { "" } else { "s" };
+        write!(formatter, "{} tick{plural}", self.count)?;
+        if let Some(clocks) = self.inside {
+            write!(formatter, " after {clocks} clocks of a byte")?;
+        }
+        if self.before.core == self.after.core {
+            return write!(formatter, ": {}", self.reason_of_standstill());
+        }
+        write!(formatter, ": {} -> {}", self.before.core, self.after.core)?;
+        for words in self.flags_set() {
+            write!(formatter, ", {words}")?;
+        }
+        for (tick, pin) in &self.pin_changes {
+            write!(formatter, "; ACS pin after tick {tick}: {pin}")?;
+        }
+        Ok(())
+    }
+}
+
+#[cfg(test)]
+mod tests {
+    use super::*;
+    use fm3130::{event, Device, PinFunction};
+
+    fn run(device: &mut Device, count: u64, pin_changes: Vec<(u64, Pin)>) -> TickRun {
+        let before = device.state();
+        device.run(&vec![event::TICK; count as usize]).unwrap();
+        TickRun {
+            count,
+            before,
+            after: device.state(),
+            pin_changes,
+        }
+    }
+
+    #[test]
+    fn a_halted_clock_is_said_to_be_halted() {
+        let mut device = Device::fresh();
+        let report = TickReport::of(&run(&mut device, 1, vec![]), Some(4));
+        assert_eq!(
+            report.to_string(),
+            "1 tick after 4 clocks of a byte: the oscillator is halted"
+        );
+    }
+
+    #[test]
+    fn parts_of_a_run_are_one_report() {
+        let mut device = Device::fresh();
+        let mut events = vec![event::START];
+        for byte in [0xD0, 0x01, 0x00] {
+            events.extend(event::written_byte(byte));
+        }
+        device.run(&events).unwrap();
+        let alarm = Pin {
+            function: PinFunction::Alarm,
+            alarm: true,
+        };
+        let mut report = TickReport::of(&run(&mut device, 50, vec![]), None);
+        report.extend(&run(&mut device, 15, vec![(3, alarm)]));
+        assert_eq!(
+            report.to_string(),
+            "65 ticks: 00:00:00, 01/01/00, day 1 -> 00:01:05, 01/01/00, day 1; \
+             ACS pin after tick 53: alarm, pulled low"
+        );
+    }
+}

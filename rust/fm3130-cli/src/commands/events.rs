@@ -1,0 +1,113 @@
+// SPDX-License-Identifier: Apache-2.0
+//! `fm3130 events`: scripts to event bytes, and back.
+
+use std::ffi::OsString;
+use std::path::{Path, PathBuf};
+
+use crate::arguments::{wrong, Arguments, Options};
+use crate::failure::Outcome;
+use crate::files::{self, NamedFile, Replacement};
+use crate::listing::Listing;
+use crate::output::Output;
+use crate::progress::Progress;
+use crate::script;
+use crate::source::{FileSource, PlanSource, Source};
+
+const OPTIONS: Options = Options {
+    with_value: &["-o", "--list"],
+    alone: &[],
+};
+
+/// Event bytes on a line of text.
+const BYTES_OF_A_LINE: usize = 24;
+
+/// Writes the events of a script, or the script of some events.
+pub fn command(words: Vec<OsString>) -> Outcome {
+    let arguments = Arguments::sort(words, &OPTIONS)?;
+    arguments.at_most(1)?;
+    let script = arguments.plain.first().map(PathBuf::from);
+    let target = arguments.path("-o");
+    match (script, arguments.path("--list")) {
+        (Some(_), Some(_)) => Err(wrong("events takes a SCRIPT or --list, not both")),
+        (None, None) => Err(wrong("events needs a SCRIPT or --list FILE")),
+        (None, Some(_)) if target.is_some() => Err(wrong("--list prints; it takes no -o")),
+        (None, Some(path)) => list(FileSource::open(&path)?),
+        (Some(path), None) => match target {
+            Some(target) => write(&path, &target),
+            None => print(PlanSource::new(script::load(&path)?)),
+        },
+    }
+}
+
+/// Gives a source's chunks to someone, and shows how far it is.
+fn for_each_chunk(source: &mut dyn Source, mut take: impl FnMut(&[u8]) -> Outcome) -> Outcome {
+    let mut progress = Progress::of(source.total());
+    let mut chunk = Vec::new();
+    loop {
+        source.fill(&mut chunk)?;
+        if chunk.is_empty() {
+            progress.clear();
+            return Ok(());
+        }
+        take(&chunk)?;
+        progress.advance(chunk.len());
+    }
+}
+
+/// Writes the events of a script to a file.
+fn write(script: &Path, target: &Path) -> Outcome {
+    files::must_differ(&[
+        NamedFile {
+            option: "SCRIPT",
+            path: script,
+        },
+        NamedFile {
+            option: "-o",
+            path: target,
+        },
+    ])?;
+    let mut source = PlanSource::new(script::load(script)?);
+    let mut file = Replacement::open(target)?;
+    for_each_chunk(&mut source, |chunk| file.write(chunk))?;
+    files::commit_all(vec![file])
+}
+
+/// Prints the events of a script as text.
+fn print(mut source: PlanSource) -> Outcome {
+    let mut output = Output::new();
+    let mut column = 0;
+    for_each_chunk(&mut source, |chunk| {
+        for event in chunk {
+            let gap = match column {
+                0 => "",
+                BYTES_OF_A_LINE => "\n",
+                _ => " ",
+            };
+            column = column % BYTES_OF_A_LINE + 1;
+            output.text(&format!("{gap}{event:02X}"))?;
+        }
+        Ok(())
+    })?;
+    if column > 0 {
+        output.line("")?;
+    }
+    output.finish()
+}
+
+/// Prints the script that some events come from.
+fn list(mut source: FileSource) -> Outcome {
+    let mut output = Output::new();
+    let mut listing = Listing::new();
+    for_each_chunk(&mut source, |chunk| {
+        for event in chunk {
+            for line in listing.take(*event) {
+                output.line(&line)?;
+            }
+        }
+        Ok(())
+    })?;
+    for line in listing.finish() {
+        output.line(&line)?;
+    }
+    output.finish()
+}

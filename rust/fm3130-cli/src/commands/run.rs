@@ -1,0 +1,215 @@
+// SPDX-License-Identifier: Apache-2.0
+//! `fm3130 run`: plays a script on a device.
+
+use std::ffi::OsString;
+use std::path::{Path, PathBuf};
+
+use fm3130::{Device, Phase};
+
+use crate::arguments::{wrong, Arguments, Options};
+use crate::bus::{self, Grouping, Listener, Observer, Outputs};
+use crate::drawing::Drawing;
+use crate::failure::{Failure, Outcome};
+use crate::files::{self, Loaded, NamedFile, Replacement};
+use crate::output::Output;
+use crate::script;
+use crate::source::{FileSource, PlanSource, Source};
+use crate::transcript::Transcript;
+use crate::waveform::Waveform;
+use crate::words;
+
+const OPTIONS: Options = Options {
+    with_value: &[
+        "--image",
+        "--memory",
+        "--answers",
+        "--vcd",
+        "--svg",
+        "--events",
+    ],
+    alone: &["--quiet"],
+};
+
+/// Options that name files, with the script first.
+const FILES: [&str; 6] = [
+    "--events",
+    "--image",
+    "--memory",
+    "--answers",
+    "--vcd",
+    "--svg",
+];
+
+/// Plays a script or an event file.
+pub fn command(words: Vec<OsString>) -> Outcome {
+    let arguments = Arguments::sort(words, &OPTIONS)?;
+    arguments.at_most(1)?;
+    let script = arguments.plain.first().map(PathBuf::from);
+    test_files(&arguments, script.as_deref())?;
+    let (mut source, title) = open_source(script, arguments.path("--events"))?;
+    let is_quiet = arguments.has("--quiet");
+    let mut output = Output::new();
+    let mut device = load_device(&arguments, is_quiet, &mut output)?;
+    let mut targets = Targets::open(&arguments)?;
+    if !is_quiet {
+        say_where_it_begins(&device, &mut output)?;
+    }
+    let transcript = (!is_quiet).then_some(&mut output);
+    play_to(&mut device, &mut *source, &mut targets, transcript, &title)?;
+    if !is_quiet {
+        output.line("")?;
+        for line in words::of_device(&device) {
+            output.line(&line)?;
+        }
+    }
+    output.finish()?;
+    targets.commit(&device)
+}
+
+/// Refuses a command line in which two words name one file.
+fn test_files(arguments: &Arguments, script: Option<&Path>) -> Outcome {
+    let paths: Vec<(&str, PathBuf)> = FILES
+        .into_iter()
+        .filter_map(|option| Some((option, arguments.path(option)?)))
+        .collect();
+    let mut named: Vec<NamedFile> = script
+        .into_iter()
+        .filter(|path| *path != Path::new("-"))
+        .map(|path| NamedFile {
+            option: "SCRIPT",
+            path,
+        })
+        .collect();
+    named.extend(
+        paths
+            .iter()
+            .map(|(option, path)| NamedFile { option, path }),
+    );
+    files::must_differ(&named)
+}
+
+/// The source of events and its name.
+fn open_source(
+    script: Option<PathBuf>,
+    events: Option<PathBuf>,
+) -> Outcome<(Box<dyn Source>, String)> {
+    match (script, events) {
+        (Some(path), None) => Ok((
+            Box::new(PlanSource::new(script::load(&path)?)),
+            title_of(&path),
+        )),
+        (None, Some(path)) => Ok((Box::new(FileSource::open(&path)?), title_of(&path))),
+        (Some(_), Some(_)) => Err(wrong("run takes a SCRIPT or --events, not both")),
+        (None, None) => Err(wrong("run needs a SCRIPT")),
+    }
+}
+
+/// A file's name without its folder, for the head of a drawing.
+fn title_of(path: &Path) -> String {
+    match path.file_name() {
+        Some(name) if path != Path::new("-") => name.to_string_lossy().into_owned(),
+        _ => "standard input".to_string(),
+    }
+}
+
+/// The device that the files hold, or a fresh one where there are none.
+fn load_device(arguments: &Arguments, is_quiet: bool, output: &mut Output) -> Outcome<Device> {
+    let fresh = Device::fresh();
+    let mut image = fresh.image().to_vec();
+    let mut memory = fresh.memory().to_vec();
+    if let Some(path) = arguments.path("--image") {
+        image = told(files::load_image(&path)?, &path, is_quiet, output)?;
+    }
+    if let Some(path) = arguments.path("--memory") {
+        memory = told(files::load_memory(&path)?, &path, is_quiet, output)?;
+    }
+    Device::from_parts(&image, &memory).map_err(|refusal| Failure::Refused(refusal.to_string()))
+}
+
+/// The bytes of a part; says so if no file gave them.
+fn told(loaded: Loaded, path: &Path, is_quiet: bool, output: &mut Output) -> Outcome<Vec<u8>> {
+    if loaded.is_fresh && !is_quiet {
+        output.line(&format!("{}: new, begins fresh", path.display()))?;
+    }
+    Ok(loaded.bytes)
+}
+
+/// A run that begins inside a transfer says so.
+fn say_where_it_begins(device: &Device, output: &mut Output) -> Outcome {
+    match device.phase() {
+        Phase::Idle => Ok(()),
+        _ => output.line(&format!("begins inside: {}", words::bus(&device.state()))),
+    }
+}
+
+/// Plays a source to all who want to see it.
+fn play_to(
+    device: &mut Device,
+    source: &mut dyn Source,
+    targets: &mut Targets,
+    output: Option<&mut Output>,
+    title: &str,
+) -> Outcome {
+    let state = device.state();
+    let prints = output.is_some();
+    let mut transcript = output.map(Transcript::new);
+    let svg = targets.svg.as_mut();
+    let mut drawing = svg.map(|file| Drawing::new(file, title, &state));
+    let mut listeners: Vec<&mut dyn Listener> = Vec::new();
+    listeners.extend(transcript.as_mut().map(|one| one as &mut dyn Listener));
+    listeners.extend(drawing.as_mut().map(|one| one as &mut dyn Listener));
+    let is_heard = !listeners.is_empty();
+    let mut grouping = Grouping::new(listeners, &state);
+    let mut waveform = match targets.vcd.as_mut() {
+        Some(file) => Some(Waveform::begin(file, &state)?),
+        None => None,
+    };
+    let mut observers: Vec<&mut dyn Observer> = Vec::new();
+    if is_heard {
+        observers.push(&mut grouping);
+    }
+    observers.extend(waveform.as_mut().map(|one| one as &mut dyn Observer));
+    let mut outputs = Outputs {
+        observers,
+        prints,
+        answers: targets.answers.as_mut(),
+    };
+    bus::play(device, source, &mut outputs)
+}
+
+/// The files that a run writes. All are opened before the run and put in place after it.
+struct Targets {
+    image: Option<Replacement>,
+    memory: Option<Replacement>,
+    answers: Option<Replacement>,
+    vcd: Option<Replacement>,
+    svg: Option<Replacement>,
+}
+
+impl Targets {
+    fn open(arguments: &Arguments) -> Outcome<Targets> {
+        let open = |option| {
+            let path = arguments.path(option);
+            path.map(|path| Replacement::open(&path)).transpose()
+        };
+        Ok(Targets {
+            image: open("--image")?,
+            memory: open("--memory")?,
+            answers: open("--answers")?,
+            vcd: open("--vcd")?,
+            svg: open("--svg")?,
+        })
+    }
+
+    /// Writes the device, and puts every file in its place.
+    fn commit(mut self, device: &Device) -> Outcome {
+        if let Some(file) = &mut self.image {
+            file.write(device.image())?;
+        }
+        if let Some(file) = &mut self.memory {
+            file.write(device.memory())?;
+        }
+        let all = [self.image, self.memory, self.answers, self.vcd, self.svg];
+        files::commit_all(all.into_iter().flatten().collect())
+    }
+}

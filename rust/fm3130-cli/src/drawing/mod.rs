@@ -1,0 +1,181 @@
+// SPDX-License-Identifier: Apache-2.0
+//! A drawing (SVG) of the bus: the two wires, who pulls them, the bytes and what they mean.
+//!
+//! [`Drawing`] makes cells of what happens and puts them into rows as wide as a page. A [`Row`]
+//! draws cells; [`Wires`] are the levels that go on from cell to cell and from row to row; `page`
+//! is all that is not a row.
+
+mod page;
+mod row;
+mod wires;
+
+use fm3130::{event, Pin};
+
+use crate::bus::{BusByte, Happening, Listener, PowerChange, TickReport};
+use crate::failure::Outcome;
+use crate::files::Replacement;
+use row::{Aside, Mark, Row};
+use wires::Wires;
+
+/// A drawing with more cells would be no drawing any more: it stops and says so.
+const MOST_CELLS: usize = 4000;
+
+/// Draws what happens.
+pub struct Drawing<'run> {
+    file: &'run mut Replacement,
+    title: String,
+    row: Row,
+    /// The rows that are full.
+    rows: Vec<String>,
+    cells: usize,
+    /// What happened inside the byte under way; it is drawn with the byte.
+    marks: Vec<Mark>,
+}
+
+impl<'run> Drawing<'run> {
+    /// A drawing for a run that begins in a state.
+    pub fn new(file: &'run mut Replacement, title: &str, state: &fm3130::State) -> Drawing<'run> {
+        Drawing {
+            file,
+            title: title.to_string(),
+            row: Row::new(Wires::of(state)),
+            rows: Vec::new(),
+            cells: 0,
+            marks: Vec::new(),
+        }
+    }
+
+    /// Makes room for a cell; false if the drawing is full.
+    fn make_room(&mut self, width: f64) -> bool {
+        self.cells += 1;
+        if self.cells > MOST_CELLS {
+            return false;
+        }
+        if !self.row.has_room(width) {
+            let next = Row::new(self.row.wires());
+            let full = std::mem::replace(&mut self.row, next);
+            self.rows.push(full.into_text());
+        }
+        true
+    }
+
+    /// A Start stays with its slave byte.
+    fn start(&mut self, is_repeated: bool) {
+        if self.make_room(row::EDGE + row::BYTE + row::EDGE) {
+            self.row.start(is_repeated);
+        }
+    }
+
+    fn stop(&mut self) {
+        if self.make_room(row::EDGE) {
+            self.row.stop();
+        }
+    }
+
+    /// A byte leaves room for a Stop, which stays with it.
+    fn byte(&mut self, byte: &BusByte) {
+        let marks = std::mem::take(&mut self.marks);
+        if self.make_room(row::width_of(byte) + row::EDGE) {
+            self.row.byte(byte, &marks);
+        }
+    }
+
+    /// A box between bytes, or a mark inside one.
+    fn aside(&mut self, aside: &Aside, inside: Option<usize>, pin: Pin) {
+        match inside {
+            Some(clocks) => self.marks.push(Mark {
+                clocks,
+                name: aside.name.clone(),
+                pin,
+            }),
+            None => {
+                if self.make_room(row::ASIDE) {
+                    self.row.aside(aside);
+                }
+            }
+        }
+    }
+
+    fn power(&mut self, change: &PowerChange, pin: Pin) {
+        if change.event != event::POWER_RETURNED {
+            self.row.release();
+        }
+        self.aside(&box_of_power(change), change.inside, pin);
+    }
+}
+
+/// The box of a run of ticks: how many, and the time after them.
+fn box_of_ticks(report: &TickReport) -> Aside {
+    let name = match report.count {
+        1 => "tick".to_string(),
+        count => format!("t*{count}"),
+    };
+    let core = report.after.core;
+    Aside {
+        name,
+        words: format!(
+            "{:02X}:{:02X}:{:02X}",
+            core.hours, core.minutes, core.seconds
+        ),
+        color: page::TICK,
+    }
+}
+
+/// The box of a power event.
+fn box_of_power(change: &PowerChange) -> Aside {
+    let (name, words) = match change.event {
+        event::POWER_LOST_WITH_BACKUP => ("lost", "on backup"),
+        event::POWER_LOST_WITHOUT_BACKUP => ("gone", "no supply"),
+        _ => ("power", "power on"),
+    };
+    Aside {
+        name: name.to_string(),
+        words: words.to_string(),
+        color: page::POWER,
+    }
+}
+
+impl Listener for Drawing<'_> {
+    fn happening(&mut self, happening: &Happening, pin: Pin) -> Outcome {
+        let inside = match happening {
+            Happening::Start { is_repeated } => {
+                self.start(*is_repeated);
+                None
+            }
+            Happening::Stop => {
+                self.stop();
+                None
+            }
+            Happening::Byte(byte) => {
+                self.byte(byte);
+                None
+            }
+            Happening::Ticks(report) => {
+                self.aside(&box_of_ticks(report), report.inside, pin);
+                report.inside
+            }
+            Happening::Power(change) => {
+                self.power(change, pin);
+                change.inside
+            }
+        };
+        // What is inside a byte is drawn with the byte, and so is the pin after it.
+        if inside.is_none() {
+            self.row.pin(pin);
+        }
+        Ok(())
+    }
+
+    fn finish(&mut self) -> Outcome {
+        let last = std::mem::replace(&mut self.row, Row::new(Wires::free()));
+        self.rows.push(last.into_text());
+        let is_cut = self.cells > MOST_CELLS;
+        if is_cut {
+            eprintln!(
+                "fm3130: the drawing stops after {MOST_CELLS} cells; --vcd has no such limit"
+            );
+        }
+        let page = page::whole(&self.title, &self.rows, is_cut);
+        self.file.write(page.as_bytes())
+    }
+}

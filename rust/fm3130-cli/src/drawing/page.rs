@@ -1,0 +1,140 @@
+// SPDX-License-Identifier: Apache-2.0
+//! All of a drawing that is not a row: head, legend, colours.
+
+use super::row;
+use super::wires::Puller;
+
+/// The width of a page.
+pub const WIDTH: f64 = 1180.0;
+
+/// The height of title and legend.
+const HEAD: f64 = 62.0;
+
+/// The colour of ticks.
+pub const TICK: &str = "#fbf0c4";
+/// The colour of power events.
+pub const POWER: &str = "#f9d2d2";
+/// The colour of a byte that the master sends.
+pub const SENT_BY_MASTER: &str = "#dbe9f8";
+/// The colour of a byte that the device sends.
+pub const SENT_BY_DEVICE: &str = "#fde3cc";
+/// The colour of a byte that nobody hears.
+pub const UNHEARD: &str = "#eceff3";
+/// The colour of an acknowledge that is not given.
+pub const NOT_ACKNOWLEDGED: &str = "#ffffff";
+/// The colour of Start and Stop.
+pub const EDGE: &str = "#dff0df";
+/// The colour of text.
+pub const INK: &str = "#1f2937";
+/// The colour of text that is less important.
+pub const FAINT: &str = "#6b7280";
+
+/// Colours that can be told apart by all eyes and in print.
+pub fn color_of(puller: Puller) -> &'static str {
+    match puller {
+        Puller::Nobody => "#8a94a3",
+        Puller::Master => "#1f5fa8",
+        Puller::Device => "#d2600a",
+        Puller::Both => "#7b3fa0",
+    }
+}
+
+/// The whole drawing.
+pub fn whole(title: &str, rows: &[String], is_cut: bool) -> String {
+    let foot = if is_cut { 30.0 } else { 10.0 };
+    let height = HEAD + row::HEIGHT * rows.len() as f64 + foot;
+    let mut page = format!(
+        "<?xml version=\"1.0\" encoding=\"UTF-8\"?>\n\
+         <svg xmlns=\"http://www.w3.org/2000/svg\" width=\"{WIDTH}\" height=\"{height}\" \
+         viewBox=\"0 0 {WIDTH} {height}\" font-family=\"DejaVu Sans, Verdana, sans-serif\">\n\
+         <rect width=\"100%\" height=\"100%\" fill=\"#ffffff\"/>\n"
+    );
+    page.push_str(&head(title));
+    for (index, row) in rows.iter().enumerate() {
+        let top = HEAD + row::HEIGHT * index as f64;
+        page.push_str(&format!(
+            "<g transform=\"translate(0,{top})\">\n{row}</g>\n"
+        ));
+    }
+    if is_cut {
+        let words = "The drawing stops here; the run goes on.";
+        page.push_str(&text(row::LEFT, height - 12.0, 11.0, "start", INK, words));
+    }
+    page.push_str("</svg>\n");
+    page
+}
+
+/// Title and legend.
+fn head(title: &str) -> String {
+    let mut head = text(20.0, 26.0, 15.0, "start", INK, title);
+    let words = "S Start, Sr repeated Start, P Stop. A box has the colour of whoever sends it.";
+    head.push_str(&text(20.0, 46.0, 10.0, "start", FAINT, words));
+    let legend = [
+        (Puller::Master, "master pulls SDA"),
+        (Puller::Device, "device pulls SDA"),
+        (Puller::Both, "both pull"),
+        (Puller::Nobody, "released"),
+    ];
+    for (index, (puller, words)) in legend.into_iter().enumerate() {
+        let x = 620.0 + 140.0 * index as f64;
+        let color = color_of(puller);
+        head.push_str(&format!(
+            "<rect x=\"{x}\" y=\"38\" width=\"18\" height=\"4\" fill=\"{color}\"/>\n"
+        ));
+        head.push_str(&text(x + 24.0, 46.0, 10.0, "start", INK, words));
+    }
+    head
+}
+
+/// A text; `anchor` is start, middle or end.
+pub fn text(x: f64, y: f64, size: f64, anchor: &str, color: &str, words: &str) -> String {
+    format!(
+        "<text x=\"{x:.1}\" y=\"{y:.1}\" font-size=\"{size}\" text-anchor=\"{anchor}\" \
+         fill=\"{color}\">{}</text>\n",
+        escaped(words)
+    )
+}
+
+/// A text that fits a width, cut if it must be.
+pub fn fitted(words: &str, width: f64, size: f64) -> String {
+    let most = (width / (size * 0.6)) as usize;
+    if words.chars().count() <= most {
+        return words.to_string();
+    }
+    let mut cut: String = words.chars().take(most.saturating_sub(1)).collect();
+    cut.push('…');
+    cut
+}
+
+/// A text without signs that mean something in XML, or that XML does not allow at all.
+fn escaped(words: &str) -> String {
+    words
+        .chars()
+        .map(|sign| match sign {
+            '&' => "&amp;".to_string(),
+            '<' => "&lt;".to_string(),
+            '>' => "&gt;".to_string(),
+            sign if sign.is_control() => '\u{FFFD}'.to_string(),
+            sign => sign.to_string(),
+        })
+        .collect()
+}
+
+#[cfg(test)]
+mod tests {
+    use super::*;
+
+    #[test]
+    fn signs_of_xml_are_escaped() {
+        assert_eq!(
+            escaped("Alarm & <WP>\x1b"),
+            "Alarm &amp; &lt;WP&gt;\u{FFFD}"
+        );
+    }
+
+    #[test]
+    fn long_words_are_cut() {
+        assert_eq!(fitted("companion, write", 132.0, 9.0), "companion, write");
+        assert_eq!(fitted("abcdefghij", 30.0, 10.0), "abcd…");
+    }
+}

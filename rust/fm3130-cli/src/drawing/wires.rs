@@ -1,0 +1,68 @@
+// SPDX-License-Identifier: Apache-2.0
+//! The levels of the wires, which go on from cell to cell.
+
+use fm3130::{Phase, Pin, PinFunction, State};
+
+use crate::bus::BusClock;
+
+/// Who pulls SDA low.
+#[derive(Clone, Copy, Debug, PartialEq, Eq)]
+pub enum Puller {
+    /// Nobody: the line is high.
+    Nobody,
+    /// The master.
+    Master,
+    /// The device.
+    Device,
+    /// Both.
+    Both,
+}
+
+impl Puller {
+    /// All of them.
+    pub const ALL: [Puller; 4] = [Puller::Nobody, Puller::Master, Puller::Device, Puller::Both];
+
+    /// Who pulls at a clock.
+    pub fn at(clock: &BusClock) -> Puller {
+        match (clock.master_is_high, clock.device_pulls) {
+            (true, false) => Puller::Nobody,
+            (false, false) => Puller::Master,
+            (true, true) => Puller::Device,
+            (false, true) => Puller::Both,
+        }
+    }
+}
+
+/// The levels between two cells.
+#[derive(Clone, Copy, Debug)]
+pub struct Wires {
+    /// SCL is high when the bus is free, and low inside a transfer.
+    pub clock_is_high: bool,
+    /// Who pulls SDA.
+    pub puller: Puller,
+    /// The ACS pin.
+    pub pin: Pin,
+}
+
+impl Wires {
+    /// A free bus.
+    pub fn free() -> Wires {
+        Wires {
+            clock_is_high: true,
+            puller: Puller::Nobody,
+            pin: Pin {
+                function: PinFunction::Released,
+                alarm: false,
+            },
+        }
+    }
+
+    /// The wires of a run that begins in a state.
+    pub fn of(state: &State) -> Wires {
+        Wires {
+            clock_is_high: state.phase == Phase::Idle,
+            pin: state.pin(),
+            ..Wires::free()
+        }
+    }
+}

@@ -1,0 +1,79 @@
+// SPDX-License-Identifier: Apache-2.0
+//! The files that a device is made of: an image and a memory.
+
+use std::path::Path;
+
+use fm3130::{Device, Refusal, IMAGE_BYTES, MEMORY_BYTES};
+
+use super::read_at_most;
+use crate::failure::{Failure, Outcome};
+
+/// Bytes of a part, and whether a file gave them.
+pub struct Loaded {
+    /// The part's bytes.
+    pub bytes: Vec<u8>,
+    /// True when there is no such file, so that the bytes are those of a fresh device.
+    pub is_fresh: bool,
+}
+
+/// The image in a file, tested; or the fresh image if there is no such file.
+pub fn load_image(path: &Path) -> Outcome<Loaded> {
+    let fresh = Device::fresh();
+    let loaded = load(path, IMAGE_BYTES, fresh.image(), Refusal::Image)?;
+    Device::from_parts(&loaded.bytes, fresh.memory())
+        .map_err(|refusal| Failure::of_refusal(path, refusal))?;
+    Ok(loaded)
+}
+
+/// The memory in a file, tested; or an empty memory if there is no such file.
+pub fn load_memory(path: &Path) -> Outcome<Loaded> {
+    load(
+        path,
+        MEMORY_BYTES,
+        &[0; MEMORY_BYTES],
+        Refusal::MemoryLength,
+    )
+}
+
+/// The bytes of a file that must have a length; or others if there is no such file.
+fn load(path: &Path, length: usize, otherwise: &[u8], refusal: Refusal) -> Outcome<Loaded> {
+    if !exists(path)? {
+        return Ok(Loaded {
+            bytes: otherwise.to_vec(),
+            is_fresh: true,
+        });
+    }
+    if !path.is_file() {
+        return Err(Failure::Files(format!(
+            "{}: not a regular file",
+            path.display()
+        )));
+    }
+    let bytes = read_at_most(path, length)?;
+    if bytes.len() != length {
+        return Err(wrong_length(path, bytes.len(), length, refusal));
+    }
+    Ok(Loaded {
+        bytes,
+        is_fresh: false,
+    })
+}
+
+/// Whether there is such a file; not to know it is a failure, since a fresh part would hide it.
+fn exists(path: &Path) -> Outcome<bool> {
+    path.try_exists()
+        .map_err(|error| Failure::of_file(path, &error))
+}
+
+/// Says how long the file is and how long it should be.
+fn wrong_length(path: &Path, found: usize, wanted: usize, refusal: Refusal) -> Failure {
+    let found = if found > wanted {
+        format!("more than {wanted}")
+    } else {
+        found.to_string()
+    };
+    Failure::Refused(format!(
+        "{}: the file has {found} bytes: {refusal}",
+        path.display()
+    ))
+}

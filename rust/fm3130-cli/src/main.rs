@@ -1,0 +1,42 @@
+// SPDX-License-Identifier: Apache-2.0
+//! The command `fm3130`: plays bus scripts on the proved stand-in, and shows what happened.
+//!
+//! * `commands`: one module a command, which reads its command line and does the work.
+//! * `script`: bus scripts, from text to events. `source`: events in chunks.
+//! * `bus`: the device does the events; clocks become bytes with a meaning.
+//! * `transcript`, `waveform`, `drawing`: what happened as text, VCD and SVG.
+//! * `listing`: event bytes back to a script. `words`: a device in words.
+//! * `files`, `output`, `progress`, `arguments`, `failure`: the world outside.
+
+#![forbid(unsafe_code)]
+
+mod arguments;
+mod bus;
+mod commands;
+mod drawing;
+mod failure;
+mod files;
+mod listing;
+mod output;
+mod progress;
+mod script;
+mod source;
+mod transcript;
+mod waveform;
+mod words;
+
+use std::env;
+use std::process::ExitCode;
+
+fn main() -> ExitCode {
+    match commands::dispatch(env::args_os().skip(1).collect()) {
+        Ok(()) => ExitCode::SUCCESS,
+        Err(failure) => {
+            let words = failure.to_string();
+            if !words.is_empty() {
+                eprintln!("fm3130: {words}");
+            }
+            ExitCode::from(failure.exit_code())
+        }
+    }
+}

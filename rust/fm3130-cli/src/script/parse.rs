@@ -1,0 +1,301 @@
+// SPDX-License-Identifier: Apache-2.0
+//! From text to items.
+
+use super::item::{Action, Item, Ninth};
+use super::problem::{Place, Problem};
+
+/// The greatest repeat: a century has 3,155,760,000 seconds.
+const MOST_TIMES: u64 = 4_294_967_295;
+
+/// What words there are, for whoever wrote another.
+const KNOWN_WORDS: &str =
+    "known: [ ] r r+ R r- t lost gone power, bytes as A0 or 0xA0, clocks as {0110}";
+
+/// The items of a text, or the first problem in it.
+pub fn parse(text: &str) -> Result<Vec<Item>, Problem> {
+    let mut items = Vec::new();
+    for (index, content) in text.lines().enumerate() {
+        let mut line = Line::new(index + 1, content);
+        while line.skip_to_item() {
+            items.push(line.item()?);
+        }
+    }
+    Ok(items)
+}
+
+/// One line, read from left to right.
+struct Line {
+    number: usize,
+    signs: Vec<char>,
+    next: usize,
+}
+
+impl Line {
+    fn new(number: usize, content: &str) -> Line {
+        Line {
+            number,
+            signs: content.chars().collect(),
+            next: 0,
+        }
+    }
+
+    fn peek(&self) -> Option<char> {
+        self.signs.get(self.next).copied()
+    }
+
+    /// The characters from one place to the next one to be read.
+    fn since(&self, begin: usize) -> Place {
+        Place {
+            line: self.number,
+            column: begin + 1,
+            width: (self.next - begin).max(1),
+        }
+    }
+
+    /// True at a comment, which ends the line.
+    fn is_at_comment(&self) -> bool {
+        let rest = &self.signs[self.next..];
+        rest.starts_with(&['#']) || rest.starts_with(&['/', '/'])
+    }
+
+    /// Goes to the next item; false at the end of the line. A byte order mark counts as a blank.
+    fn skip_to_item(&mut self) -> bool {
+        while let Some(sign) = self.peek() {
+            if self.is_at_comment() {
+                return false;
+            }
+            if !(sign.is_whitespace() || sign == ',' || sign == '\u{FEFF}') {
+                return true;
+            }
+            self.next += 1;
+        }
+        false
+    }
+
+    /// An item: an action and its repeat.
+    fn item(&mut self) -> Result<Item, Problem> {
+        let action = match self.peek() {
+            Some('[') => self.single(Action::Start),
+            Some(']') => self.single(Action::Stop),
+            Some('{') => self.clocks()?,
+            Some('}') => return Err(self.stray("there is no { before this }")),
+            Some(':' | '*') => {
+                return Err(self.stray("a repeat stands right after what it repeats"))
+            }
+            _ => self.word()?,
+        };
+        let times = self.times()?;
+        Ok(Item { action, times })
+    }
+
+    fn single(&mut self, action: Action) -> Action {
+        self.next += 1;
+        action
+    }
+
+    /// A problem with the one character here.
+    fn stray(&mut self, message: &str) -> Problem {
+        let begin = self.next;
+        self.next += 1;
+        Problem::new(self.since(begin), message, "")
+    }
+
+    /// Clocks in braces; blanks between them do not count.
+    fn clocks(&mut self) -> Result<Action, Problem> {
+        let begin = self.next;
+        self.next += 1;
+        let mut levels = Vec::new();
+        loop {
+            match self.peek() {
+                Some('0') => levels.push(false),
+                Some('1') => levels.push(true),
+                Some('}') => break,
+                Some(sign) if sign.is_whitespace() || sign == ',' => {}
+                None => return Err(self.open_brace(begin)),
+                Some(_) if self.is_at_comment() => return Err(self.open_brace(begin)),
+                Some(_) => return Err(self.stray("a clock is 0 or 1")),
+            }
+            self.next += 1;
+        }
+        self.next += 1;
+        if levels.is_empty() {
+            let advice = "write each clock as 0 or 1, such as {0110}";
+            return Err(Problem::new(
+                self.since(begin),
+                "no clocks in braces",
+                advice,
+            ));
+        }
+        Ok(Action::Clocks(levels))
+    }
+
+    fn open_brace(&self, begin: usize) -> Problem {
+        Problem::new(
+            self.since(begin),
+            "a { without a } on its line",
+            "write clocks as {0110}",
+        )
+    }
+
+    /// A word: up to a blank, a bracket, a brace, a repeat or a comment.
+    fn word(&mut self) -> Result<Action, Problem> {
+        let begin = self.next;
+        while let Some(sign) = self.peek() {
+            let ends = sign.is_whitespace() || ",[]{}:*".contains(sign) || self.is_at_comment();
+            if ends {
+                break;
+            }
+            self.next += 1;
+        }
+        let word: String = self.signs[begin..self.next].iter().collect();
+        match meaning_of(&word) {
+            Ok(action) => Ok(action),
+            Err((message, advice)) => Err(Problem::new(self.since(begin), message, advice)),
+        }
+    }
+
+    /// The repeat right after an action, or 1.
+    fn times(&mut self) -> Result<u64, Problem> {
+        if !matches!(self.peek(), Some(':' | '*')) {
+            return Ok(1);
+        }
+        let begin = self.next;
+        self.next += 1;
+        let first_digit = self.next;
+        while self
+            .peek()
+            .is_some_and(|sign| sign.is_alphanumeric() || sign == '_')
+        {
+            self.next += 1;
+        }
+        let digits: String = self.signs[first_digit..self.next]
+            .iter()
+            .filter(|sign| **sign != '_')
+            .collect();
+        match digits.parse::<u64>() {
+            Ok(times) if (1..=MOST_TIMES).contains(&times) => Ok(times),
+            _ => Err(Problem::new(
+                self.since(begin),
+                format!("a repeat is a decimal number from 1 to {MOST_TIMES}"),
+                "write r:8 or t*60, without blanks",
+            )),
+        }
+    }
+}
+
+/// What a word asks for; else a message and advice.
+fn meaning_of(word: &str) -> Result<Action, (String, String)> {
+    match word {
+        "r" => Ok(Action::Read(Ninth::ByWhatFollows)),
+        "r+" => Ok(Action::Read(Ninth::Acknowledge)),
+        "R" | "r-" => Ok(Action::Read(Ninth::Release)),
+        "t" => Ok(Action::Tick),
+        "lost" => Ok(Action::PowerLost),
+        "gone" => Ok(Action::PowerGone),
+        "power" => Ok(Action::PowerReturned),
+        _ => byte_of(word).map(Action::Write),
+    }
+}
+
+/// The byte that a word writes; else a message and advice.
+fn byte_of(word: &str) -> Result<u8, (String, String)> {
+    let prefixed = word.strip_prefix("0x").or_else(|| word.strip_prefix("0X"));
+    let digits = prefixed.unwrap_or(word);
+    let is_number = !digits.is_empty() && digits.chars().all(|sign| sign.is_ascii_hexdigit());
+    if !is_number && prefixed.is_some() {
+        let message = format!("{word} is no byte");
+        return Err((message, "write 0x and two hexadecimal digits".to_string()));
+    }
+    if !is_number {
+        return Err((format!("unknown word {word}"), KNOWN_WORDS.to_string()));
+    }
+    let fits = digits.len() == 2 || (digits.len() == 1 && prefixed.is_some());
+    if !fits {
+        let message = format!("{word} is not one byte");
+        let advice = "a byte has two hexadecimal digits, and a blank stands between bytes";
+        return Err((message, advice.to_string()));
+    }
+    u8::from_str_radix(digits, 16).map_err(|error| (error.to_string(), String::new()))
+}
+
+#[cfg(test)]
+mod tests {
+    use super::*;
+
+    fn once(action: Action) -> Item {
+        Item { action, times: 1 }
+    }
+
+    /// Line, column and width of the problem in a text, and its message.
+    fn problem(text: &str) -> (usize, usize, usize, String) {
+        let problem = parse(text).expect_err(text);
+        let place = problem.place;
+        (place.line, place.column, place.width, problem.message)
+    }
+
+    #[test]
+    fn a_bus_pirate_line() {
+        let items = parse("[0xA0 0x00,1f R]").unwrap();
+        let expected = [
+            once(Action::Start),
+            once(Action::Write(0xA0)),
+            once(Action::Write(0x00)),
+            once(Action::Write(0x1F)),
+            once(Action::Read(Ninth::Release)),
+            once(Action::Stop),
+        ];
+        assert_eq!(items, expected);
+    }
+
+    #[test]
+    fn repeats_clocks_ticks_and_power() {
+        let items = parse("r:8 {01 1}:2 t*31_000_000 lost gone power FF*3 0x5 r+ r-").unwrap();
+        let times: Vec<u64> = items.iter().map(|item| item.times).collect();
+        assert_eq!(times, [8, 2, 31_000_000, 1, 1, 1, 3, 1, 1, 1]);
+        assert_eq!(items[1].action, Action::Clocks(vec![false, true, true]));
+        assert_eq!(items[7].action, Action::Write(0x05));
+        assert_eq!(items[8].action, Action::Read(Ninth::Acknowledge));
+        assert_eq!(items[9].action, Action::Read(Ninth::Release));
+    }
+
+    #[test]
+    fn comments_and_empty_texts() {
+        assert_eq!(parse("").unwrap(), []);
+        assert_eq!(parse("# [ A0\n// ]\n \t\r\n").unwrap(), []);
+        assert_eq!(parse("t# t\nt//t").unwrap().len(), 2);
+        assert_eq!(parse("\u{FEFF}t").unwrap().len(), 1);
+    }
+
+    #[test]
+    fn problems_have_places() {
+        let place = |text: &str| {
+            let (line, column, width, _) = problem(text);
+            (line, column, width)
+        };
+        assert_eq!(place("[ A0 lots ]"), (1, 6, 4));
+        assert_eq!(place("[\n\n  A0D0"), (3, 3, 4));
+        assert_eq!(place("[ 5 ]"), (1, 3, 1));
+        assert_eq!(place("0x1FF"), (1, 1, 5));
+        assert_eq!(place("0x"), (1, 1, 2));
+        assert_eq!(place("0xG0"), (1, 1, 4));
+        assert_eq!(place("t* 60"), (1, 2, 1));
+        assert_eq!(place("t *60"), (1, 3, 1));
+        assert_eq!(place("t*0"), (1, 2, 2));
+        assert_eq!(place("t:99999999999"), (1, 2, 12));
+        assert_eq!(place("r:8x"), (1, 2, 3));
+        assert_eq!(place("{012}"), (1, 4, 1));
+        assert_eq!(place("  {01"), (1, 3, 3));
+        assert_eq!(place("{}"), (1, 1, 2));
+        assert_eq!(place("}"), (1, 1, 1));
+        assert_eq!(place("é ß"), (1, 1, 1));
+    }
+
+    #[test]
+    fn problems_say_what_is_wrong() {
+        assert_eq!(problem("lots").3, "unknown word lots");
+        assert_eq!(problem("A0D0").3, "A0D0 is not one byte");
+        assert_eq!(problem("{2}").3, "a clock is 0 or 1");
+        assert_eq!(problem("{0 # 1}").3, "a { without a } on its line");
+        assert!(problem("t*").3.starts_with("a repeat is a decimal number"));
+    }
+}

@@ -1,0 +1,146 @@
+// SPDX-License-Identifier: Apache-2.0
+//! From items to events.
+
+use fm3130::event;
+
+use super::item::{Action, Item, Ninth};
+
+/// Some events, done so many times.
+#[derive(Clone, Debug, PartialEq, Eq)]
+pub struct Step {
+    /// The events, at least one.
+    pub events: Vec<u8>,
+    /// How often, at least once.
+    pub times: u64,
+}
+
+/// The events of a script. A repeat stays a number, so that a long script is a small plan.
+#[derive(Clone, Debug, Default, PartialEq, Eq)]
+pub struct Plan {
+    /// The steps in order.
+    pub steps: Vec<Step>,
+}
+
+impl Plan {
+    /// The plan of some items.
+    pub fn of(items: &[Item]) -> Plan {
+        let mut plan = Plan::default();
+        for (index, item) in items.iter().enumerate() {
+            match item.action {
+                Action::Read(ninth) => {
+                    plan.read(
+                        item.times,
+                        acknowledges_last(ninth, &items[index + 1..]),
+                        ninth,
+                    );
+                }
+                ref action => plan.add(events_of(action), item.times),
+            }
+        }
+        plan
+    }
+
+    /// The number of events.
+    pub fn total(&self) -> u64 {
+        self.steps.iter().fold(0, |sum: u64, step| {
+            sum.saturating_add(step.times.saturating_mul(step.events.len() as u64))
+        })
+    }
+
+    fn add(&mut self, events: Vec<u8>, times: u64) {
+        if times > 0 {
+            self.steps.push(Step { events, times });
+        }
+    }
+
+    /// Reads so many bytes. A plain `r` acknowledges all but perhaps the last.
+    fn read(&mut self, times: u64, acknowledges_last: bool, ninth: Ninth) {
+        if ninth == Ninth::ByWhatFollows && !acknowledges_last {
+            self.add(event::read_byte(true).to_vec(), times - 1);
+            self.add(event::read_byte(false).to_vec(), 1);
+        } else {
+            self.add(event::read_byte(acknowledges_last).to_vec(), times);
+        }
+    }
+}
+
+/// What the master does after the last byte of a read, by the items that follow it.
+fn acknowledges_last(ninth: Ninth, following: &[Item]) -> bool {
+    let next = following.iter().find(|item| item.action.is_on_the_bus());
+    match ninth {
+        Ninth::Acknowledge => true,
+        Ninth::Release => false,
+        Ninth::ByWhatFollows => {
+            !next.is_some_and(|item| matches!(item.action, Action::Start | Action::Stop))
+        }
+    }
+}
+
+/// The events of an action that is no read.
+fn events_of(action: &Action) -> Vec<u8> {
+    match action {
+        Action::Start => vec![event::START],
+        Action::Stop => vec![event::STOP],
+        Action::Write(byte) => event::written_byte(*byte).to_vec(),
+        Action::Read(_) => event::read_byte(true).to_vec(),
+        Action::Clocks(levels) => levels.iter().map(|level| event::clock(*level)).collect(),
+        Action::Tick => vec![event::TICK],
+        Action::PowerLost => vec![event::POWER_LOST_WITH_BACKUP],
+        Action::PowerGone => vec![event::POWER_LOST_WITHOUT_BACKUP],
+        Action::PowerReturned => vec![event::POWER_RETURNED],
+    }
+}
+
+#[cfg(test)]
+mod tests {
+    use super::*;
+    use crate::script::parse::parse;
+
+    /// All events of a text.
+    fn events(text: &str) -> Vec<u8> {
+        let plan = Plan::of(&parse(text).unwrap());
+        let events: Vec<u8> = plan
+            .steps
+            .iter()
+            .flat_map(|step| step.events.repeat(step.times as usize))
+            .collect();
+        assert_eq!(events.len() as u64, plan.total());
+        events
+    }
+
+    #[test]
+    fn the_exact_run_of_01() {
+        assert_eq!(events("[ A0 ]"), [0, 3, 2, 3, 2, 2, 2, 2, 2, 3, 1]);
+    }
+
+    #[test]
+    fn every_kind_of_event() {
+        assert_eq!(
+            events("[ ] {01} t lost gone power"),
+            [0, 1, 2, 3, 4, 5, 6, 7]
+        );
+        assert_eq!(events("{10}:2 t*3"), [3, 2, 3, 2, 4, 4, 4]);
+    }
+
+    #[test]
+    fn the_last_read_before_start_or_stop_is_not_acknowledged() {
+        let ninths = |text: &str| -> Vec<u8> {
+            let all = events(text);
+            let clocks: Vec<u8> = all.into_iter().filter(|e| (2..=3).contains(e)).collect();
+            clocks.chunks(9).map(|byte| byte[8]).collect()
+        };
+        assert_eq!(ninths("r:3 ]"), [2, 2, 3]);
+        assert_eq!(ninths("r r r ["), [2, 2, 3]);
+        assert_eq!(ninths("r t lost ]"), [3]);
+        assert_eq!(ninths("r r"), [2, 2]);
+        assert_eq!(ninths("r+ ] R r- r+"), [2, 3, 3, 2]);
+        assert_eq!(ninths("r:2 R:2 ]"), [2, 2, 3, 3]);
+    }
+
+    #[test]
+    fn a_long_repeat_is_a_small_plan() {
+        let plan = Plan::of(&parse("t*4294967295 t*4294967295").unwrap());
+        assert_eq!(plan.steps.len(), 2);
+        assert_eq!(plan.total(), 8_589_934_590);
+    }
+}

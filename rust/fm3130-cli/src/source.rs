@@ -1,0 +1,165 @@
+// SPDX-License-Identifier: Apache-2.0
+//! Where events come from, a chunk at a time, so that a long run needs no long list.
+
+use std::fs::File;
+use std::io::Read;
+use std::path::{Path, PathBuf};
+
+use fm3130::event;
+
+use crate::failure::{Failure, Outcome};
+use crate::script::Plan;
+
+/// The most events of a chunk.
+pub const CHUNK: usize = 65_536;
+
+/// A source of events.
+pub trait Source {
+    /// The number of events of the whole source.
+    fn total(&self) -> u64;
+
+    /// Puts the next events into a chunk, at most [`CHUNK`]; none at the end.
+    fn fill(&mut self, chunk: &mut Vec<u8>) -> Outcome;
+}
+
+/// The events of a script's plan.
+pub struct PlanSource {
+    plan: Plan,
+    /// The step under way.
+    step: usize,
+    /// The events of that step already given.
+    given: u64,
+}
+
+impl PlanSource {
+    /// All events of a plan.
+    pub fn new(plan: Plan) -> PlanSource {
+        PlanSource {
+            plan,
+            step: 0,
+            given: 0,
+        }
+    }
+}
+
+impl Source for PlanSource {
+    fn total(&self) -> u64 {
+        self.plan.total()
+    }
+
+    fn fill(&mut self, chunk: &mut Vec<u8>) -> Outcome {
+        chunk.clear();
+        while let Some(step) = self.plan.steps.get(self.step) {
+            let length = step.events.len() as u64;
+            let end = step.times.saturating_mul(length);
+            while self.given < end && chunk.len() < CHUNK {
+                chunk.push(step.events[(self.given % length) as usize]);
+                self.given += 1;
+            }
+            if self.given < end {
+                return Ok(());
+            }
+            self.step += 1;
+            self.given = 0;
+        }
+        Ok(())
+    }
+}
+
+/// The events of a file, one byte an event.
+pub struct FileSource {
+    path: PathBuf,
+    file: File,
+    total: u64,
+}
+
+impl FileSource {
+    /// Opens an event file and tests all its bytes, as 01 asks: "all events are tested before the
+    /// first is done".
+    pub fn open(path: &Path) -> Outcome<FileSource> {
+        if path.exists() && !path.is_file() {
+            let words = format!("{}: not a regular file", path.display());
+            return Err(Failure::Files(words));
+        }
+        let total = test_events(FileSource::open_untested(path)?)?;
+        let mut source = FileSource::open_untested(path)?;
+        source.total = total;
+        Ok(source)
+    }
+
+    fn open_untested(path: &Path) -> Outcome<FileSource> {
+        let file = File::open(path).map_err(|error| Failure::of_file(path, &error))?;
+        Ok(FileSource {
+            path: path.to_path_buf(),
+            file,
+            total: 0,
+        })
+    }
+}
+
+impl Source for FileSource {
+    fn total(&self) -> u64 {
+        self.total
+    }
+
+    fn fill(&mut self, chunk: &mut Vec<u8>) -> Outcome {
+        chunk.clear();
+        (&mut self.file)
+            .take(CHUNK as u64)
+            .read_to_end(chunk)
+            .map(|_| ())
+            .map_err(|error| Failure::of_file(&self.path, &error))
+    }
+}
+
+/// The number of events of a source, all of which are known events.
+fn test_events(mut source: FileSource) -> Outcome<u64> {
+    let mut chunk = Vec::new();
+    let mut total = 0;
+    loop {
+        source.fill(&mut chunk)?;
+        if chunk.is_empty() {
+            return Ok(total);
+        }
+        if let Some(place) = chunk.iter().position(|byte| *byte > event::LAST) {
+            return Err(Failure::Script(format!(
+                "{}: byte {} is {:02X}h: {}",
+                source.path.display(),
+                total + place as u64,
+                chunk[place],
+                fm3130::Refusal::UnknownEvent
+            )));
+        }
+        total += chunk.len() as u64;
+    }
+}
+
+#[cfg(test)]
+mod tests {
+    use super::*;
+    use crate::script::Step;
+
+    #[test]
+    fn chunks_joined_are_the_plan() {
+        let step = |events: &[u8], times| Step {
+            events: events.to_vec(),
+            times,
+        };
+        let steps = vec![step(&[0], 1), step(&[3, 2, 3], 50_000), step(&[4], 7)];
+        let mut source = PlanSource::new(Plan { steps });
+        let (mut joined, mut chunk) = (Vec::new(), Vec::new());
+        loop {
+            source.fill(&mut chunk).unwrap();
+            if chunk.is_empty() {
+                break;
+            }
+            assert!(chunk.len() <= CHUNK);
+            joined.extend_from_slice(&chunk);
+        }
+        let mut expected = vec![0];
+        expected.extend([3, 2, 3].repeat(50_000));
+        expected.extend([4; 7]);
+        assert_eq!(joined, expected);
+        assert_eq!(source.total(), expected.len() as u64);
+    }
+}

@@ -1,0 +1,118 @@
+// SPDX-License-Identifier: Apache-2.0
+//! What happened, a line for each byte.
+
+use fm3130::{event, Pin, Power};
+
+use crate::bus::{BusByte, Direction, Happening, Listener, PowerChange, TickReport};
+use crate::failure::Outcome;
+use crate::output::Output;
+
+/// Prints what happens.
+pub struct Transcript<'run> {
+    output: &'run mut Output,
+}
+
+impl<'run> Transcript<'run> {
+    /// A transcript on standard output.
+    pub fn new(output: &'run mut Output) -> Transcript<'run> {
+        Transcript { output }
+    }
+}
+
+impl Listener for Transcript<'_> {
+    fn happening(&mut self, happening: &Happening, _: Pin) -> Outcome {
+        self.output.line(&line_of(happening))
+    }
+}
+
+/// The line of a happening: its notation in scripts, then words.
+fn line_of(happening: &Happening) -> String {
+    match happening {
+        Happening::Start { is_repeated: false } => row("[", "Start"),
+        Happening::Start { is_repeated: true } => row("[", "repeated Start"),
+        Happening::Stop => row("]", "Stop"),
+        Happening::Byte(byte) => byte_line(byte),
+        Happening::Ticks(report) => row(&ticks_notation(report), &report.to_string()),
+        Happening::Power(change) => power_line(change),
+    }
+}
+
+fn row(notation: &str, words: &str) -> String {
+    format!("{notation:<8}{words}")
+}
+
+fn ticks_notation(report: &TickReport) -> String {
+    match report.count {
+        1 => "t".to_string(),
+        count => format!("t*{count} "),
+    }
+}
+
+/// Direction, value, acknowledge and meaning of a byte.
+fn byte_line(byte: &BusByte) -> String {
+    let clocks = byte.clocks.len();
+    if clocks < 8 || byte.is_stray {
+        return format!("  clocks  {{{}}}  {}", byte.digits(), byte.meaning);
+    }
+    // What nobody hears is no write, and a released line is no read.
+    let verb = match byte.direction {
+        Direction::Write => "write",
+        Direction::Read => "read",
+        Direction::Unheard => "line",
+    };
+    format!(
+        "  {verb:<5} {:02X}h  {:<5} {}{}",
+        byte.value(),
+        acknowledge(byte),
+        byte.meaning,
+        remark(byte)
+    )
+}
+
+/// ACK and NACK, as the data sheet writes them; dashes for a byte without its ninth clock.
+fn acknowledge(byte: &BusByte) -> &'static str {
+    match (byte.ninth(), byte.is_acknowledged()) {
+        (None, _) => "--",
+        (Some(_), true) => "ACK",
+        (Some(_), false) => "NACK",
+    }
+}
+
+/// What else a reader should know of a byte.
+fn remark(byte: &BusByte) -> &'static str {
+    match (byte.direction, byte.ninth()) {
+        (Direction::Unheard, None) => "",
+        (_, None) => "; cut before the acknowledge",
+        (Direction::Read, Some(_)) => "",
+        (_, Some(ninth)) if !ninth.master_is_high && !ninth.device_pulls => {
+            "; it is the master that holds the ninth bit low"
+        }
+        _ => "",
+    }
+}
+
+fn power_line(change: &PowerChange) -> String {
+    let (notation, words) = match (change.event, change.before) {
+        (event::POWER_LOST_WITH_BACKUP, Power::On) => ("lost", "main power lost, backup present"),
+        (event::POWER_LOST_WITH_BACKUP, _) => ("lost", "main power is lost already"),
+        (event::POWER_LOST_WITHOUT_BACKUP, Power::On) => {
+            ("gone", "main power lost, no backup: registers lost")
+        }
+        (event::POWER_LOST_WITHOUT_BACKUP, Power::Backup) => {
+            ("gone", "backup lost too: registers lost")
+        }
+        (event::POWER_LOST_WITHOUT_BACKUP, Power::None) => {
+            ("gone", "both supplies are gone already")
+        }
+        (_, Power::On) => ("power", "main power is there already"),
+        (_, Power::Backup) => ("power", "main power returned, POR set"),
+        (_, Power::None) => ("power", "main power returned"),
+    };
+    match change.inside {
+        Some(clocks) => row(
+            notation,
+            &format!("{words}, after {clocks} clocks of a byte"),
+        ),
+        None => row(notation, words),
+    }
+}

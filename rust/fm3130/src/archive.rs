@@ -1,0 +1,96 @@
+// SPDX-License-Identifier: Apache-2.0
+//! The C interface of the proved archive. All `unsafe` code of the crate is here.
+//!
+//! The archive asks of its callers that the buffers are not null and do not overlap. Rust's slices
+//! are never null, and an exclusive slice overlaps no other slice that is alive: each function here
+//! takes slices and hands on exactly their pointers and lengths, so safe code cannot break the rule.
+
+use crate::refusal::Refusal;
+
+/// What `fm3130_run` returns.
+#[repr(C)]
+struct Ran {
+    number: u64,
+    count: u64,
+}
+
+extern "C" {
+    fn fm3130_run(
+        image: *mut u8,
+        image_length: u64,
+        memory: *mut u8,
+        memory_length: u64,
+        events: *const u8,
+        events_length: u64,
+        answers: *mut u8,
+        answers_length: u64,
+    ) -> Ran;
+
+    fn fm3130_fresh(image: *mut u8, image_length: u64) -> u64;
+
+    fn fm3130_view_number(
+        image: *const u8,
+        image_length: u64,
+        memory: *const u8,
+        memory_length: u64,
+        selector: u64,
+        start: u64,
+        length: u64,
+    ) -> u64;
+}
+
+/// Runs a list; returns the number of events done.
+pub fn run(
+    image: &mut [u8],
+    memory: &mut [u8],
+    events: &[u8],
+    answers: &mut [u8],
+) -> Result<usize, Refusal> {
+    // SAFETY: each pointer and length is a live slice's own, so it is not null and the archive may
+    // read it, and write where it is exclusive; exclusive slices overlap nothing. The archive
+    // allocates nothing and keeps no pointer.
+    let ran = unsafe {
+        fm3130_run(
+            image.as_mut_ptr(),
+            image.len() as u64,
+            memory.as_mut_ptr(),
+            memory.len() as u64,
+            events.as_ptr(),
+            events.len() as u64,
+            answers.as_mut_ptr(),
+            answers.len() as u64,
+        )
+    };
+    // The count is the number of events, so it is a length of a slice and fits.
+    Refusal::outcome_of(ran.number).map(|()| ran.count as usize)
+}
+
+/// Writes the fresh image.
+pub fn fresh(image: &mut [u8]) -> Result<(), Refusal> {
+    // SAFETY: pointer and length are those of one live, exclusive slice.
+    let number = unsafe { fm3130_fresh(image.as_mut_ptr(), image.len() as u64) };
+    Refusal::outcome_of(number)
+}
+
+/// Asks the viewer's number.
+pub fn view_number(
+    image: &[u8],
+    memory: &[u8],
+    selector: u64,
+    start: u64,
+    length: u64,
+) -> Result<(), Refusal> {
+    // SAFETY: each pointer and length is a live slice's own, and the archive only reads.
+    let number = unsafe {
+        fm3130_view_number(
+            image.as_ptr(),
+            image.len() as u64,
+            memory.as_ptr(),
+            memory.len() as u64,
+            selector,
+            start,
+            length,
+        )
+    };
+    Refusal::outcome_of(number)
+}

@@ -1,0 +1,281 @@
+// SPDX-License-Identifier: Apache-2.0
+//! A device that owns its state image and its memory.
+
+use std::fmt;
+
+use crate::answer::Pin;
+use crate::archive;
+use crate::calendar::Calendar;
+use crate::entries;
+use crate::refusal::Refusal;
+use crate::state::{Phase, Power, State};
+use crate::{IMAGE_BYTES, MEMORY_BYTES, REGISTER_COUNT};
+
+/// One FM3130: a state image and 8,192 bytes of memory.
+///
+/// The image is always that of a well-formed state: only the archive writes it, and
+/// [`Device::from_parts`] lets the archive judge one that comes from outside.
+#[derive(Clone, PartialEq, Eq)]
+pub struct Device {
+    image: [u8; IMAGE_BYTES],
+    memory: Box<[u8; MEMORY_BYTES]>,
+}
+
+impl Device {
+    /// The fresh device; its memory is all 0.
+    ///
+    /// ```
+    /// let device = fm3130::Device::fresh();
+    /// assert_eq!(device.registers()[0], 0x90); // LB and POR
+    /// assert_eq!(device.memory(), &[0; 8192]);
+    /// ```
+    pub fn fresh() -> Device {
+        let mut image = [0; IMAGE_BYTES];
+        // Number 0 for every image of 64 bytes, so there is nothing to hand on.
+        let _ = archive::fresh(&mut image);
+        Device {
+            image,
+            memory: Box::new([0; MEMORY_BYTES]),
+        }
+    }
+
+    /// A device made of an image and a memory, as another device or a C host left them.
+    ///
+    /// # Errors
+    ///
+    /// [`Refusal::MemoryLength`] or [`Refusal::Image`].
+    ///
+    /// ```
+    /// use fm3130::{Device, Refusal};
+    ///
+    /// let device = Device::fresh();
+    /// assert_eq!(Device::from_parts(device.image(), device.memory()), Ok(device));
+    /// assert_eq!(Device::from_parts(&[0; 64], &[0; 8192]), Err(Refusal::Image));
+    /// assert_eq!(Device::from_parts(&[0; 64], &[0; 8191]), Err(Refusal::MemoryLength));
+    /// ```
+    pub fn from_parts(image: &[u8], memory: &[u8]) -> Result<Device, Refusal> {
+        let memory: [u8; MEMORY_BYTES] = memory.try_into().or(Err(Refusal::MemoryLength))?;
+        let image: [u8; IMAGE_BYTES] = image.try_into().or(Err(Refusal::Image))?;
+        let mut device = Device {
+            image,
+            memory: Box::new(memory),
+        };
+        // An empty list changes nothing and is refused if no well-formed state writes the image.
+        device.run_into(&[], &mut [])?;
+        Ok(device)
+    }
+
+    /// Runs a list of events; returns an answer for each.
+    ///
+    /// # Errors
+    ///
+    /// [`Refusal::UnknownEvent`]; then no event was done.
+    ///
+    /// ```
+    /// use fm3130::{event, Device};
+    ///
+    /// let mut device = Device::fresh();
+    /// assert_eq!(device.run(&[event::START, event::STOP])?, [5, 5]);
+    /// assert!(device.run(&[event::START, 8]).is_err());
+    /// # Ok::<(), fm3130::Refusal>(())
+    /// ```
+    pub fn run(&mut self, events: &[u8]) -> Result<Vec<u8>, Refusal> {
+        let mut answers = vec![0; events.len()];
+        self.run_into(events, &mut answers)?;
+        Ok(answers)
+    }
+
+    /// Runs a list of events; the answers go to the first bytes of `answers`, the others stay.
+    /// Returns the number of events.
+    ///
+    /// # Errors
+    ///
+    /// [`Refusal::UnknownEvent`] or [`Refusal::ShortAnswers`]; then no event was done.
+    ///
+    /// ```
+    /// use fm3130::{event, Device, Refusal};
+    ///
+    /// let mut device = Device::fresh();
+    /// let mut answers = [0xEE; 3];
+    /// assert_eq!(device.run_into(&[event::START, event::STOP], &mut answers), Ok(2));
+    /// assert_eq!(answers, [5, 5, 0xEE]);
+    /// assert_eq!(device.run_into(&[event::TICK; 4], &mut answers), Err(Refusal::ShortAnswers));
+    /// ```
+    pub fn run_into(&mut self, events: &[u8], answers: &mut [u8]) -> Result<usize, Refusal> {
+        archive::run(&mut self.image, &mut self.memory[..], events, answers)
+    }
+
+    /// Does one event; returns its answer.
+    ///
+    /// # Errors
+    ///
+    /// [`Refusal::UnknownEvent`]; then nothing was done.
+    ///
+    /// ```
+    /// use fm3130::{event, Answer, Device};
+    ///
+    /// let answer = Device::fresh().step(event::CLOCK_LOW)?;
+    /// assert!(!Answer(answer).line_is_high());
+    /// # Ok::<(), fm3130::Refusal>(())
+    /// ```
+    pub fn step(&mut self, event: u8) -> Result<u8, Refusal> {
+        let mut answer = [0];
+        self.run_into(&[event], &mut answer)?;
+        Ok(answer[0])
+    }
+
+    /// The state image: its first 15 bytes are the registers.
+    ///
+    /// ```
+    /// let device = fm3130::Device::fresh();
+    /// assert_eq!(device.image()[..15], device.registers()[..]);
+    /// ```
+    pub fn image(&self) -> &[u8; IMAGE_BYTES] {
+        &self.image
+    }
+
+    /// The memory.
+    ///
+    /// ```
+    /// assert_eq!(fm3130::Device::fresh().memory().len(), 8192);
+    /// ```
+    pub fn memory(&self) -> &[u8; MEMORY_BYTES] {
+        &self.memory
+    }
+
+    /// The memory, to preset it from outside the bus. FRAM may hold any bytes.
+    ///
+    /// ```
+    /// let mut device = fm3130::Device::fresh();
+    /// device.memory_mut().fill(0xFF);
+    /// assert_eq!(device.memory()[8191], 0xFF);
+    /// ```
+    pub fn memory_mut(&mut self) -> &mut [u8; MEMORY_BYTES] {
+        &mut self.memory
+    }
+
+    /// Registers 00h to 0Eh.
+    ///
+    /// ```
+    /// use fm3130::{registers, Device};
+    ///
+    /// let device = Device::fresh();
+    /// assert!(device.registers()[registers::CALIBRATION] & registers::OSCEN != 0);
+    /// ```
+    pub fn registers(&self) -> &[u8; REGISTER_COUNT] {
+        match self.image.first_chunk() {
+            Some(registers) => registers,
+            None => &[0; REGISTER_COUNT],
+        }
+    }
+
+    /// A part of the memory or of the registers, never a copy; see [`crate::selector`].
+    ///
+    /// # Errors
+    ///
+    /// [`Refusal::Selector`] or [`Refusal::PastTheEnd`].
+    ///
+    /// ```
+    /// use fm3130::{selector, Device, Refusal};
+    ///
+    /// let device = Device::fresh();
+    /// assert_eq!(device.view(selector::MEMORY, 0, 4)?, [0; 4]);
+    /// assert_eq!(device.view(selector::MEMORY, u64::MAX, 1), Err(Refusal::PastTheEnd));
+    /// # Ok::<(), Refusal>(())
+    /// ```
+    pub fn view(&self, selector: u64, start: u64, length: u64) -> Result<&[u8], Refusal> {
+        entries::view(&self.image, &self.memory[..], selector, start, length)
+    }
+
+    /// All that the image holds, taken apart.
+    ///
+    /// ```
+    /// let state = fm3130::Device::fresh().state();
+    /// assert!(state.core.is_valid());
+    /// ```
+    pub fn state(&self) -> State {
+        State::of_image(&self.image)
+    }
+
+    /// The calendar core.
+    ///
+    /// ```
+    /// let device = fm3130::Device::fresh();
+    /// assert_eq!(device.calendar().to_string(), "00:00:00, 01/01/00, day 1");
+    /// ```
+    pub fn calendar(&self) -> Calendar {
+        self.state().core
+    }
+
+    /// The ACS pin.
+    ///
+    /// ```
+    /// assert_eq!(fm3130::Device::fresh().pin().to_string(), "square wave");
+    /// ```
+    pub fn pin(&self) -> Pin {
+        self.state().pin()
+    }
+
+    /// Which supplies are there.
+    ///
+    /// ```
+    /// use fm3130::{event, Device, Power};
+    ///
+    /// let mut device = Device::fresh();
+    /// device.step(event::POWER_LOST_WITH_BACKUP)?;
+    /// assert_eq!(device.power(), Power::Backup);
+    /// # Ok::<(), fm3130::Refusal>(())
+    /// ```
+    pub fn power(&self) -> Power {
+        self.state().power
+    }
+
+    /// The memory's current address, 0000h to 1FFFh.
+    ///
+    /// ```
+    /// assert_eq!(fm3130::Device::fresh().memory_address(), 0x0000);
+    /// ```
+    pub fn memory_address(&self) -> u16 {
+        self.state().memory_address
+    }
+
+    /// The companion's current address, 00h to 0Eh.
+    ///
+    /// ```
+    /// assert_eq!(fm3130::Device::fresh().companion_address(), 0x00);
+    /// ```
+    pub fn companion_address(&self) -> u8 {
+        self.state().companion_address
+    }
+
+    /// What byte is under way on the bus.
+    ///
+    /// ```
+    /// use fm3130::{event, Device, Phase};
+    ///
+    /// let mut device = Device::fresh();
+    /// assert_eq!(device.phase(), Phase::Idle);
+    /// device.step(event::START)?;
+    /// assert_eq!(device.phase(), Phase::SlaveByte);
+    /// # Ok::<(), fm3130::Refusal>(())
+    /// ```
+    pub fn phase(&self) -> Phase {
+        self.state().phase
+    }
+}
+
+impl Default for Device {
+    fn default() -> Device {
+        Device::fresh()
+    }
+}
+
+/// The state in words; 8,192 bytes of memory would hide it.
+impl fmt::Debug for Device {
+    fn fmt(&self, formatter: &mut fmt::Formatter<'_>) -> fmt::Result {
+        formatter
+            .debug_struct("Device")
+            .field("state", &self.state())
+            .finish_non_exhaustive()
+    }
+}

@@ -1,0 +1,88 @@
+// SPDX-License-Identifier: Apache-2.0
+//! The archive's entries on slices of any length.
+
+use crate::archive;
+use crate::refusal::Refusal;
+use crate::{selector, REGISTER_COUNT};
+
+/// Runs a list of events on a state image and a memory; the answers go to the first bytes of
+/// `answers`, the others stay. Returns the number of events.
+///
+/// # Errors
+///
+/// [`Refusal::MemoryLength`], [`Refusal::Image`], [`Refusal::UnknownEvent`] or
+/// [`Refusal::ShortAnswers`], the first that applies; then no buffer has changed.
+///
+/// ```
+/// use fm3130::Refusal;
+///
+/// let (mut image, mut memory, mut answers) = ([0; 64], [0; 8192], [0; 4]);
+/// fm3130::fresh(&mut image)?;
+/// assert_eq!(fm3130::run(&mut image, &mut memory, &[0, 1], &mut answers), Ok(2));
+/// assert_eq!(answers, [5, 5, 0, 0]);
+/// assert_eq!(
+///     fm3130::run(&mut image, &mut memory[1..], &[0, 1], &mut answers),
+///     Err(Refusal::MemoryLength)
+/// );
+/// # Ok::<(), Refusal>(())
+/// ```
+pub fn run(
+    image: &mut [u8],
+    memory: &mut [u8],
+    events: &[u8],
+    answers: &mut [u8],
+) -> Result<usize, Refusal> {
+    archive::run(image, memory, events, answers)
+}
+
+/// Writes the image of the fresh state: power on, no transfer, both addresses 0.
+///
+/// # Errors
+///
+/// [`Refusal::Image`] if the image is not 64 bytes; then it has not changed.
+///
+/// ```
+/// let mut image = [0; 64];
+/// assert_eq!(fm3130::fresh(&mut image), Ok(()));
+/// assert_eq!(image[..8], [0x90, 0x80, 0, 0, 0, 1, 1, 1]);
+/// assert_eq!(fm3130::fresh(&mut image[1..]), Err(fm3130::Refusal::Image));
+/// ```
+pub fn fresh(image: &mut [u8]) -> Result<(), Refusal> {
+    archive::fresh(image)
+}
+
+/// A part of the memory or of the registers, never a copy. Of the image only the length is tested.
+///
+/// # Errors
+///
+/// [`Refusal::MemoryLength`], [`Refusal::Image`], [`Refusal::Selector`] or [`Refusal::PastTheEnd`],
+/// the first that applies.
+///
+/// ```
+/// use fm3130::{selector, Refusal};
+///
+/// let (image, memory) = ([0; 64], [7; 8192]);
+/// assert_eq!(fm3130::view(&image, &memory, selector::MEMORY, 8190, 2)?, [7, 7]);
+/// assert_eq!(fm3130::view(&image, &memory, selector::MEMORY, 8192, 0)?, []);
+/// assert_eq!(fm3130::view(&image, &memory, selector::REGISTERS, 14, 2), Err(Refusal::PastTheEnd));
+/// assert_eq!(fm3130::view(&image, &memory, 2, 0, 0), Err(Refusal::Selector));
+/// # Ok::<(), Refusal>(())
+/// ```
+pub fn view<'part>(
+    image: &'part [u8],
+    memory: &'part [u8],
+    selector: u64,
+    start: u64,
+    length: u64,
+) -> Result<&'part [u8], Refusal> {
+    archive::view_number(image, memory, selector, start, length)?;
+    let chosen = match selector {
+        selector::MEMORY => memory,
+        _ => image.get(..REGISTER_COUNT).ok_or(Refusal::Image)?,
+    };
+    // Number 0 says that start + length is at most 8,192, so neither cast loses bits.
+    let (start, length) = (start as usize, length as usize);
+    chosen
+        .get(start..start.saturating_add(length))
+        .ok_or(Refusal::PastTheEnd)
+}

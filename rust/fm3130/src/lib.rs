@@ -1,0 +1,62 @@
+// SPDX-License-Identifier: Apache-2.0
+//! A stand-in for the FM3130, a clock-and-memory chip on a two-wire bus: 8,192 bytes of FRAM,
+//! fifteen registers, a calendar and an alarm.
+//!
+//! What the device does is proved; the proved program is an archive with a C interface, and this
+//! crate is its safe face in Rust. It adds no rule of the device: every event goes to the archive.
+//! The rules are those of the scope paper, called 01 here.
+//!
+//! * [`Device`] owns a state and its memory, and takes lists of events.
+//! * [`event`] names the event bytes; [`Answer`] reads the answer bytes; [`selector`] names what a
+//!   viewer can show.
+//! * [`State`], [`Calendar`], [`Pin`] and [`registers`] say in words what a state holds.
+//! * [`run`], [`fresh`] and [`view`] are the archive's entries on slices of any length.
+//! * [`Refusal`] is why an entry did nothing, with 01's number.
+//!
+//! No function of this crate panics, whatever it is given.
+//!
+//! ```
+//! use fm3130::{event, Device};
+//!
+//! // Start, slave byte A0h high bit first, acknowledge clock, Stop.
+//! let mut device = Device::fresh();
+//! let answers = device.run(&[0, 3, 2, 3, 2, 2, 2, 2, 2, 3, 1])?;
+//! assert_eq!(answers, [5, 5, 4, 5, 4, 4, 4, 4, 4, 4, 5]);
+//!
+//! // Seconds pass only when the oscillator runs: a fresh device has it halted.
+//! device.run(&[event::TICK; 60])?;
+//! assert_eq!(device.calendar().to_string(), "00:00:00, 01/01/00, day 1");
+//! # Ok::<(), fm3130::Refusal>(())
+//! ```
+
+#![deny(missing_docs)]
+#![deny(unsafe_code)]
+
+mod answer;
+// The only module that may use `unsafe`: it crosses the C interface of the archive.
+#[allow(unsafe_code)]
+mod archive;
+mod calendar;
+mod device;
+mod entries;
+pub mod event;
+mod refusal;
+pub mod registers;
+pub mod selector;
+mod state;
+
+pub use answer::{Answer, Pin, PinFunction};
+pub use calendar::Calendar;
+pub use device::Device;
+pub use entries::{fresh, run, view};
+pub use refusal::Refusal;
+pub use state::{Phase, Power, Side, State};
+
+/// The length of a state image.
+pub const IMAGE_BYTES: usize = 64;
+
+/// The length of the memory.
+pub const MEMORY_BYTES: usize = 8192;
+
+/// The number of registers, 00h to 0Eh; they are the first bytes of an image.
+pub const REGISTER_COUNT: usize = 15;
