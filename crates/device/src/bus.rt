@@ -2,7 +2,12 @@
 // Start, Stop and a Clock while main power is present: each phase's clock is handed only what it may touch, and what it
 // leaves is put back into the state.
 ghost use mathlib.Core.Path.{_≡_};
+ghost use Prim.Native.Nat.{_≤_};
+ghost use Rattle.wire.specs.Clock.{received, sent};
+ghost use Rattle.wire.specs.Kinds.{pointerByte, companionByte, companionRead};
 ghost use Rattle.wire.specs.declared.Phase.the-variants.{Write, Read};
+ghost use Rattle.companion.specs.Part.{guardOf, loadOf, loadedOf};
+ghost use Rattle.device.specs.Desk.{aims, stores, changedOf};
 ghost use Rattle.device.specs.Bus.{withPhase, withTurned, withMoved, withChanged, clockedWith};
 ghost use Rattle.device.specs.Step.{Ready, HappenedWith};
 use crate::Changed;
@@ -89,6 +94,40 @@ impl State {
         }
     }
 
+    // The protection bits.
+    fn guard(self) -> u8
+        ensures { λ r. ⌜ r ≡ guardOf (self .companion) ⌝ }
+    {
+        let companion = self.companion;
+        companion.guard()
+    }
+
+    // A Clock in the address byte of a companion write. Only the clocks that serve the companion take it out of the state.
+    fn pointer_clock(self, clocks: u8, byte: u8, high: bool) -> Happened
+        ensures { λ r. ⌜ r ≡ withChanged self (changedOf (received (pointerByte aims) (self .companion) clocks byte high)) ⌝ }
+    {
+        let companion = self.companion;
+        self.changed(pointer_clock(companion, clocks, byte, high))
+    }
+
+    // A Clock in a data byte for the companion.
+    fn store_clock(self, clocks: u8, byte: u8, high: bool) -> Happened
+        requires { ⌜ self .companion .address ≤ 14 ⌝ }
+        ensures { λ r. ⌜ r ≡ withChanged self (changedOf (received (companionByte stores) (self .companion) clocks byte high)) ⌝ }
+    {
+        let companion = self.companion;
+        self.changed(store_clock(companion, clocks, byte, high))
+    }
+
+    // A Clock in a data byte from the companion.
+    fn load_clock(self, clocks: u8, byte: u8, high: bool) -> Happened
+        requires { ⌜ self .companion .address ≤ 14 ⌝ }
+        ensures { λ r. ⌜ r ≡ withChanged self (changedOf (sent (companionRead loadOf loadedOf) (self .companion) clocks byte high)) ⌝ }
+    {
+        let companion = self.companion;
+        self.changed(load_clock(companion, clocks, byte, high))
+    }
+
     // A Clock in a data byte from the master, by the device that it serves.
     fn write_clock(
         self,
@@ -101,13 +140,12 @@ impl State {
         requires { ⌜ Ready self (now memory) ⌝ }
         ensures { λ r. ⌜ HappenedWith r (now (memory .exit)) (clockedWith self (now (memory .entry)) (Write side clocks byte) high) ⌝ }
     {
-        let companion = self.companion;
         match side {
             Side::Memory => {
-                let guard = companion.guard();
+                let guard = self.guard();
                 self.moved(put_clock(memory, SIZE, guard, self.address, clocks, byte, high))
             }
-            Side::Companion => self.changed(store_clock(companion, clocks, byte, high)),
+            Side::Companion => self.store_clock(clocks, byte, high),
         }
     }
 
@@ -116,10 +154,9 @@ impl State {
         requires { ⌜ Ready self (now memory) ⌝ }
         ensures { λ r. ⌜ HappenedWith r (now (memory .entry)) (clockedWith self (now (memory .entry)) (Read side clocks byte) high) ⌝ }
     {
-        let companion = self.companion;
         match side {
             Side::Memory => self.moved(fetch_clock(memory, SIZE, self.address, clocks, byte, high)),
-            Side::Companion => self.changed(load_clock(companion, clocks, byte, high)),
+            Side::Companion => self.load_clock(clocks, byte, high),
         }
     }
 
@@ -129,7 +166,6 @@ impl State {
         ensures { λ r. ⌜ HappenedWith r (now (memory .exit)) (clockedWith self (now (memory .entry)) (self .phase) high) ⌝ }
     {
         let phase = self.phase;
-        let companion = self.companion;
         match phase {
             Phase::Idle => Happened {
                 state: self,
@@ -142,12 +178,7 @@ impl State {
                 clocks,
                 byte,
             } => self.moved(low_clock(SIZE, self.address, upper, clocks, byte, high)),
-            Phase::Pointer { clocks, byte } => self.changed(pointer_clock(
-                companion,
-                clocks,
-                byte,
-                high,
-            )),
+            Phase::Pointer { clocks, byte } => self.pointer_clock(clocks, byte, high),
             Phase::Write { side, clocks, byte } => self.write_clock(
                 memory,
                 side,

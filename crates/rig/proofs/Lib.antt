@@ -3,5 +3,6 @@ pub mod Lists
 pub mod Images
 pub mod Runs
 pub mod Views
+pub mod Ends
 pub mod Pieces
 pub mod Unique

@@ -1,18 +1,16 @@
 -- SPDX-License-Identifier: Apache-2.0
 -- The list is the events one by one. Run in pieces, with state and memory handed on, it gives what the whole gives;
--- also through the entry, where the image that one call leaves is handed to the next. And what an accepted run leaves:
--- one answer an event, the count, an image that is accepted again; and a refused one: nothing.
+-- also through the entry, where the image that one call leaves is handed to the next.
 -- Assumes nothing.
 use Prim.Native.Nat.{ℕ, suc, _+_, _≤_, _<_}
 use mathlib.Core.Path.{_≡_, refl, sym, ap, _∙_}
 use mathlib.Core.Bool.{true, _&&_, and-assoc}
 use mathlib.Core.List.{List, [], _∷_, _++_, append-assoc, append-nil}
 use native.Mathlib.Omega.{arith}
-use lib.Dec.{leb, eqb}
+use lib.Dec.{leb}
 use lib.ListN.{length, drop, length-append}
 use lib.Seq.{drop-append-add, drop-length}
-use borrow.Author.Tests.{eqb-true, eqb-false, leb-true, leb-false}
-use Rattle.wire.proofs.Tests.{by-test, and-join}
+use Rattle.wire.proofs.Tests.{and-split, and-join}
 use Rattle.device.specs.Numbers.{accepted}
 use Rattle.device.specs.Chip.{memorySize}
 use Rattle.device.specs.Event.{eventOf}
@@ -20,13 +18,12 @@ use Rattle.device.specs.Limits.{wellFormed}
 use Rattle.device.specs.Step.{stepOf}
 use Rattle.device.specs.declared.State.{State}
 use Rattle.device.proofs.Entry.{step-answered}
-use Rattle.rig.specs.Image.{imageOf, decodeOf}
-use Rattle.rig.specs.Run.{following, answerTo, runOf, allKnown, Outcome, refused, written, outcomeOf}
-use Rattle.rig.specs.declared.Decoded.{Decoded}
-use Rattle.rig.specs.declared.Decoded.the-variants.{Good, Bad}
+use Rattle.rig.specs.Image.{imageOf}
+use Rattle.rig.specs.Run.{following, answerTo, runOf, allKnown, Outcome, written, outcomeOf}
 use Rattle.rig.proofs.Images.{decode-image, image-decode}
-use Rattle.rig.proofs.Runs.{run-ok, outcome-wrong-memory, outcome-wrong-image, outcome-unknown-event}
-use Rattle.rig.proofs.Runs.{outcome-short-answers, outcome-written}
+use Rattle.rig.proofs.Runs.{run-ok}
+use Rattle.rig.proofs.Runs.{outcome-written}
+use Rattle.rig.proofs.Ends.{Accepted, accepted-outcome, accepted-by, run-again}
 
 -- the list is the events one by one: each as the entry for one event does it
 pub run-by-steps : (s : State) (m : List ℕ) (e : ℕ) (es : List ℕ) → length m ≡ memorySize → wellFormed s ≡ true → e < 8
@@ -54,66 +51,15 @@ unfolding allKnown
 known-append [] ys = refl
 known-append (e ∷ xs) ys = rw (known-append xs ys) (sym (and-assoc (leb e 7) (allKnown xs) (allKnown ys)))
 
--- what number 0 says of the four buffers
-pub record Accepted (i m es a : List ℕ) : Type 0 where
-  pub state : State
-  pub memory : length m ≡ memorySize
-  pub image : decodeOf i ≡ Good state
-  pub events : allKnown es ≡ true
-  pub room : length es ≤ length a
-
--- a call's two ends: accepted, or refused by some number above 0
-data Ends (i m es a : List ℕ) : Type 0 where
-  done : Accepted i m es a → Ends i m es a
-  not-done : (n : ℕ) → outcomeOf i m es a ≡ refused (suc n) i m a → Ends i m es a
-
-ends : (i m es a : List ℕ) → Ends i m es a
-ends i m es a = by-test (eqb (length m) memorySize)
-    (λ t. on-image (eqb-true (length m) memorySize t) (decodeOf i) refl)
-    (λ t. not-done 0 (outcome-wrong-memory i m es a (eqb-false (length m) memorySize t))) where
-      on-image : length m ≡ memorySize → (d : Decoded) → decodeOf i ≡ d → Ends i m es a
-      on-image l Bad e = not-done 1 (outcome-wrong-image i m es a l e)
-      on-image l (Good s) e = by-test (allKnown es)
-          (λ k. by-test (leb (length es) (length a))
-          (λ r. done (record { state = s; memory = l; image = e; events = k; room = leb-true _ _ r }))
-          (λ r. not-done 3 (outcome-short-answers i m es a l s e k (leb-false _ _ r))))
-          (λ k. not-done 2 (outcome-unknown-event i m es a l s e k))
-
-module _ (i m es a : List ℕ) where
-  pub accepted-outcome : (c : Accepted i m es a) → outcomeOf i m es a ≡ written (runOf (c .state) m es) es a
-  accepted-outcome c = outcome-written i m es a (c .memory) (c .state) (c .image) (c .events) (c .room)
-
-  pub accepted-by : outcomeOf i m es a .number ≡ accepted → Accepted i m es a
-  accepted-by h = from (ends i m es a) where
-    from : Ends i m es a → Accepted i m es a
-    from (done c) = c
-    from (not-done n e) = let z : suc n ≡ 0 = rw e at h in absurd (omega arith)
-
-  -- under every number but 0 nothing is written, and the count is 0
-  pub run-refused : (outcomeOf i m es a .number ≡ accepted → ⊥)
-      → outcomeOf i m es a ≡ refused (outcomeOf i m es a .number) i m a
-  run-refused h = from (ends i m es a) where
-    from : Ends i m es a → outcomeOf i m es a ≡ refused (outcomeOf i m es a .number) i m a
-    from (done c) = absurd (h (ap (λ (o : Outcome). o .number) (accepted-outcome c)))
-    from (not-done n e) = rw e
-
-  -- the count is the number of events
-  pub run-count : outcomeOf i m es a .number ≡ accepted → outcomeOf i m es a .count ≡ length es
-  run-count h = ap (λ (o : Outcome). o .count) (accepted-outcome (accepted-by h))
-
-  -- the image that an accepted run leaves is accepted again, with the memory that it leaves
-  pub run-again : (c : Accepted i m es a) (ys b : List ℕ) → allKnown ys ≡ true → length ys ≤ length b
-      → Accepted (outcomeOf i m es a .image) (outcomeOf i m es a .memory) ys b
-  run-again c ys b k l =
-      let o = run-ok (c .state) m es (image-decode i (c .state) (c .image) .0) (c .memory) in
-      rw (accepted-outcome c)
-      (record {
-        state = runOf (c .state) m es .state;
-        memory = o .memory;
-        image = decode-image (runOf (c .state) m es .state) (o .state);
-        events = k;
-        room = l;
-      })
+-- where the whole is accepted, so is each of its pieces
+pub pieces-accepted : (i m xs ys a b : List ℕ) → length a ≡ length xs → Accepted i m (xs ++ ys) (a ++ b)
+    → Accepted i m xs a × Accepted (outcomeOf i m xs a .image) (outcomeOf i m xs a .memory) ys b
+pieces-accepted i m xs ys a b l c =
+    let known = and-split (allKnown xs) (allKnown ys) (sym (known-append xs ys) ∙ c .events) in
+    let room : length xs + length ys ≤ length a + length b = rw (length-append xs ys, length-append a b) at (c .room) in
+    let first : Accepted i m xs a =
+    record { state = c .state; memory = c .memory; image = c .image; events = known .0; room = omega arith } in
+    (first, run-again i m xs a first ys b (known .1) (omega arith))
 
 -- Auxiliary: two accepted calls, told as one.
 abbrev pub joined : Outcome → Outcome → Outcome

@@ -22,6 +22,7 @@ use Rattle.rig.specs.Layout.{powerNumber, powerOf, transferOf, phaseOf}
 use Rattle.rig.specs.declared.Decoded.{Decoded}
 use Rattle.rig.specs.declared.Decoded.the-variants.{Good, Bad}
 
+-- "State image (64 bytes)."
 abbrev pub imageSize : ℕ
 imageSize = 64
 
@@ -29,6 +30,7 @@ imageSize = 64
 abbrev pub mark : List ℕ
 mark = 0x31 ∷ 0x30 ∷ 0x01 ∷ []
 
+-- Auxiliary: a calendar's seven bytes.
 abbrev pub calendarBytes : Calendar → List ℕ
 calendarBytes c = c .seconds ∷ c .minutes ∷ c .hours ∷ c .day ∷ c .date ∷ c .month ∷ c .year ∷ []
 
@@ -39,12 +41,13 @@ busBytes s =
     ∷ transferOf (s .phase) .phase ∷ transferOf (s .phase) .clocks
     ∷ transferOf (s .phase) .byte ∷ transferOf (s .phase) .first ∷ []
 
+-- "The image's first 15 bytes are registers 00h to 0Eh"; then the core, bytes 22 to 29, zeros, and the mark.
 unfoldable pub imageOf : State → List ℕ
 imageOf s =
     registerBytes (s .companion .registers) ++ calendarBytes (s .companion .core)
     ++ busBytes s ++ replicate 31 0 ++ mark
 
--- Auxiliary: the fields by their places, so the one state that could write an image.
+-- Auxiliary: seven bytes from a place on, as a calendar.
 unfoldable pub calendarAt : List ℕ → ℕ → Calendar
 calendarAt i n =
     record {
@@ -57,9 +60,11 @@ calendarAt i n =
       year = getD i (n + 6) 0;
     }
 
+-- Auxiliary: the first 23 bytes, as a companion.
 abbrev pub companionAt : List ℕ → Companion
 companionAt i = record { registers = registersOf i; core = calendarAt i 15; address = getD i 22 0 }
 
+-- Auxiliary: all fields by their places, so the one state that could write an image.
 unfoldable pub candidate : List ℕ → State
 candidate i =
     record {
@@ -69,6 +74,7 @@ candidate i =
       companion = companionAt i;
     }
 
+-- Auxiliary: whether two lists are equal.
 unfoldable pub sameBytes : List ℕ → List ℕ → Bool
 sameBytes [] [] = true
 sameBytes [] (y ∷ ys) = false

@@ -13,6 +13,7 @@ use Rattle.device.specs.declared.Power.{Power}
 use Rattle.device.specs.declared.Power.the-variants.{On, Backup, Off}
 use Rattle.rig.specs.declared.Transfer.{Transfer}
 
+-- Byte 25.
 abbrev pub powerNumber : Power → ℕ
 powerNumber On = 0
 powerNumber Backup = 1
@@ -26,6 +27,7 @@ powerOf n = cond (eqb n 0) On (cond (eqb n 1) Backup Off)
 abbrev pub transfer : ℕ → ℕ → ℕ → ℕ → Transfer
 transfer n k b f = record { phase = n; clocks = k; byte = b; first = f }
 
+-- Bytes 26 to 29; a phase that moves data has a number for each of the two devices.
 abbrev pub transferOf : Phase → Transfer
 transferOf Idle = transfer 0 0 0 0
 transferOf (Slave k b) = transfer 1 k b 0

@@ -92,6 +92,7 @@ onDecoded (Good s) i m es a =
 unfoldable pub outcomeOf : List ℕ → List ℕ → List ℕ → List ℕ → Outcome
 outcomeOf i m es a = cond (eqb (length m) memorySize) (onDecoded (decodeOf i) i m es a) (refused wrongMemory i m a)
 
+-- Auxiliary: what a call returned and left, as an outcome.
 abbrev pub seen : Ran → List ℕ → List ℕ → List ℕ → Outcome
 seen r i m a = record { number = r .number; count = r .count; image = i; memory = m; answers = a }
 

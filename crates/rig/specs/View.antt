@@ -39,6 +39,7 @@ viewNumber i m selector start len =
 abbrev pub ViewNumberSettled : List ℕ → List ℕ → ℕ → ℕ → ℕ → ℕ → Type 0
 ViewNumberSettled i m selector start len n = n ≡ viewNumber i m selector start len
 
+-- The bytes that a selector of 0 or 1 names.
 abbrev pub chosen : List ℕ → List ℕ → ℕ → List ℕ
 chosen i m selector = cond (eqb selector 0) m (registersIn i)
 

@@ -4,9 +4,9 @@
 use mathlib.Core.Path.{refl, sym, _∙_}
 use denote.Ref.{now}
 use borrow.Author.Needs.{needs}
-use Rattle.device.proofs.Cases.{at-phase, idle-clock}
 use Rattle.wire.specs.Machine.{clocked}
 use Rattle.wire.proofs.Store.{low-bytes}
+use Rattle.device.proofs.Cases.{at-phase, idle-clock}
 use Rattle.device.proofs.State.clock_on.Statement.{statement}
 use Rattle.device.proofs.State.clock_on.Tie as tie
 
@@ -46,9 +46,6 @@ enum-known-phase-4 c = search needs
 pointer-clock-requires : tie.Need-pointer-clock-requires
 pointer-clock-requires c κs = search needs
 
-changed-requires : tie.Need-changed-requires
-changed-requires c κs = search needs
-
 enum-known-phase-5 : tie.Need-enum-known-phase-5
 enum-known-phase-5 c = search needs
 
@@ -62,37 +59,37 @@ read-clock-requires : tie.Need-read-clock-requires
 read-clock-requires c κs = search needs
 
 returns : tie.Need-returns
-returns c = let a = c .before .before .before .before .args in idle-clock (a .self) (now (a .memory)) (a .high) (c .enum-told .given .1)
+returns c = let a = c .before .before .before .args in idle-clock (a .self) (now (a .memory)) (a .high) (c .enum-told .given .1)
 
 returns-2 : tie.Need-returns-2
 unfolding clocked
-returns-2 c = let a = c .before .before .before .before .before .before .before .args in at-phase (a .self) (now (a .memory)) (a .high) (c .before .before .before .phase .given .1) (rw (c .turned .ensures, c .before .slave-clock .ensures) (record { result = refl; memory = refl }))
+returns-2 c = let a = c .before .before .before .before .before .before .args in at-phase (a .self) (now (a .memory)) (a .high) (c .before .before .before .phase .given .1) (rw (c .turned .ensures, c .before .slave-clock .ensures) (record { result = refl; memory = refl }))
 
 returns-3 : tie.Need-returns-3
 unfolding clocked
-returns-3 c = let a = c .before .before .before .before .before .before .before .args in at-phase (a .self) (now (a .memory)) (a .high) (c .before .before .before .phase2 .given .1) (rw (c .turned2 .ensures, c .before .high-clock .ensures) (record { result = refl; memory = refl }))
+returns-3 c = let a = c .before .before .before .before .before .before .args in at-phase (a .self) (now (a .memory)) (a .high) (c .before .before .before .phase2 .given .1) (rw (c .turned2 .ensures, c .before .high-clock .ensures) (record { result = refl; memory = refl }))
 
 returns-4 : tie.Need-returns-4
 unfolding clocked
-returns-4 c = let a = c .before .before .before .before .before .before .before .args in at-phase (a .self) (now (a .memory)) (a .high) (c .before .before .before .phase3 .given .1) (rw (c .moved .ensures, c .before .low-clock .ensures (now (a .memory))) (record { result = refl; memory = sym (low-bytes _ _ _ _ _ _) }))
+returns-4 c = let a = c .before .before .before .before .before .before .args in at-phase (a .self) (now (a .memory)) (a .high) (c .before .before .before .phase3 .given .1) (rw (c .moved .ensures, c .before .low-clock .ensures (now (a .memory))) (record { result = refl; memory = sym (low-bytes _ _ _ _ _ _) }))
 
 returns-5 : tie.Need-returns-5
 unfolding clocked
-returns-5 c = let a = c .before .before .before .before .before .before .before .args in at-phase (a .self) (now (a .memory)) (a .high) (c .before .before .before .phase4 .given .1) (rw (c .changed .ensures, c .before .pointer-clock .ensures) (record { result = refl; memory = refl }))
+returns-5 c = let a = c .before .before .before .before .before .args in at-phase (a .self) (now (a .memory)) (a .high) (c .before .before .phase4 .given .1) (rw (c .pointer-clock .ensures) (record { result = refl; memory = refl }))
 
 same-length : tie.Need-same-length
 same-length c = search needs
 
 returns-6 : tie.Need-returns-6
 unfolding clocked
-returns-6 c = let a = c .before .before .before .before .before .before .before .before .before .args in at-phase (a .self) (now (a .memory)) (a .high) (c .before .before .before .before .before .phase5 .given .1) (c .before .before .write-clock .ensures)
+returns-6 c = let a = c .before .before .before .before .before .before .before .before .args in at-phase (a .self) (now (a .memory)) (a .high) (c .before .before .before .before .before .phase5 .given .1) (c .before .before .write-clock .ensures)
 
 same-length-2 : tie.Need-same-length-2
 same-length-2 c = search needs
 
 returns-7 : tie.Need-returns-7
 unfolding clocked
-returns-7 c = let a = c .before .before .before .before .before .before .before .args in at-phase (a .self) (now (a .memory)) (a .high) (c .before .before .before .phase6 .given .1) (c .read-clock .ensures)
+returns-7 c = let a = c .before .before .before .before .before .before .args in at-phase (a .self) (now (a .memory)) (a .high) (c .before .before .before .phase6 .given .1) (c .read-clock .ensures)
 
 pub clock-on-spec : {M : Type 1} → statement M
 clock-on-spec =
@@ -110,7 +107,6 @@ clock-on-spec =
     moved-requires
     enum-known-phase-4
     pointer-clock-requires
-    changed-requires
     enum-known-phase-5
     write-clock-requires
     enum-known-phase-6

@@ -23,16 +23,13 @@ enum-told-2 c = search needs
 load-clock-requires : tie.Need-load-clock-requires
 load-clock-requires c κs = search needs
 
-changed-requires : tie.Need-changed-requires
-changed-requires c κs = search needs
-
 returns : tie.Need-returns
 unfolding clocked
 returns c = rw (c .before .before .enum-told .given .1, c .moved .ensures, c .before .fetch-clock .ensures) (record { result = refl; memory = sym (fetch-bytes _ _ _ _ _) })
 
 returns-2 : tie.Need-returns-2
 unfolding clocked
-returns-2 c = rw (c .before .before .enum-told2 .given .1, c .changed .ensures, c .before .load-clock .ensures) (record { result = refl; memory = refl })
+returns-2 c = rw (c .before .enum-told2 .given .1, c .load-clock .ensures) (record { result = refl; memory = refl })
 
 pub read-clock-spec : {M : Type 1} → statement M
 read-clock-spec =
@@ -43,6 +40,5 @@ read-clock-spec =
     moved-requires
     enum-told-2
     load-clock-requires
-    changed-requires
     returns
     returns-2)

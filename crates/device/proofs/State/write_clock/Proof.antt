@@ -25,19 +25,16 @@ enum-told-2 c = search needs
 store-clock-requires : tie.Need-store-clock-requires
 store-clock-requires c κs = search needs
 
-changed-requires : tie.Need-changed-requires
-changed-requires c κs = search needs
-
 same-length : tie.Need-same-length
 same-length c = search needs
 
 returns : tie.Need-returns
 unfolding clocked
-returns c = rw (c .before .before .before .before .before .before .enum-told .given .1, c .moved .ensures, ← c .before .before .before .before .before .guard .ensures .0, c .before .before .before .put-clock .ensures .result) (record { result = refl; memory = c .before .before .before .put-clock .ensures .bytes })
+returns c = rw (c .before .before .before .before .before .before .enum-told .given .1, c .moved .ensures, ← c .before .before .before .before .before .guard .ensures, c .before .before .before .put-clock .ensures .result) (record { result = refl; memory = c .before .before .before .put-clock .ensures .bytes })
 
 returns-2 : tie.Need-returns-2
 unfolding clocked
-returns-2 c = rw (c .before .before .enum-told2 .given .1, c .changed .ensures, c .before .store-clock .ensures) (record { result = refl; memory = refl })
+returns-2 c = rw (c .before .enum-told2 .given .1, c .store-clock .ensures) (record { result = refl; memory = refl })
 
 pub write-clock-spec : {M : Type 1} → statement M
 write-clock-spec =
@@ -49,7 +46,6 @@ write-clock-spec =
     moved-requires
     enum-told-2
     store-clock-requires
-    changed-requires
     same-length
     returns
     returns-2)

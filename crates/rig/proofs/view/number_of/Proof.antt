@@ -32,8 +32,7 @@ returns-4 : tie.Need-returns-4
 unfolding viewNumber
 returns-4 c =
     let t = c .before .before in
-    let n = ne-eqb _ _ (t .if3 .left) in
-    simp (t .before .before .if1 .left, t .before .if2 .left, n, c .before .if4 .taken, length-take)
+    simp (t .before .before .if1 .left, t .before .if2 .left, c .before .if4 .taken, length-take)
     (c .end-number2 .ensures)
 
 returns-5 : tie.Need-returns-5
