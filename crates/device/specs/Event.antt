@@ -8,7 +8,7 @@ use Prim.Native.Nat.{ℕ}
 use mathlib.Core.Bool.{Bool, true, false, cond}
 use mathlib.Core.List.{List}
 use lib.Dec.{eqb}
-use Rattle.wire.specs.Machine.{Line, start, stop, clock, line, tick, step}
+use Rattle.wire.specs.Machine.{Line, start, stop, clock, mastersLine, line, tick, step}
 use Rattle.companion.specs.Part.{tickOf}
 use Rattle.device.specs.Chip.{fm3130, machineOf, Done, doneOf}
 use Rattle.device.specs.Bus.{withCompanion}
@@ -33,19 +33,13 @@ happening e =
     (cond (eqb e 5) lost
     (cond (eqb e 6) gone returned))))))
 
--- "For a Clock, low if the master or the device pulls it low; for other events 1": here the master alone.
-abbrev pub masters : Line → Bool
-masters start = true
-masters stop = true
-masters (clock d) = d
-
 -- Auxiliary: an event that is neither Start, Stop nor Clock, and touches no memory.
 abbrev pub still : State → List ℕ → Done
 still s m = record { state = s; memory = m; line = true }
 
 -- "While off, bus events do nothing and a Clock's line is the master's."
 abbrev pub unheard : State → List ℕ → Line → Done
-unheard s m x = record { state = s; memory = m; line = masters x }
+unheard s m x = record { state = s; memory = m; line = mastersLine x }
 
 -- "A tick counts if .. power or backup is present": on backup the companion goes on.
 abbrev pub ticked : State → State

@@ -6,13 +6,13 @@
 use mathlib.Core.Path.{_≡_, refl, sym, subst, _∙_}
 use mathlib.Core.Bool.{Bool, true, false}
 use mathlib.Core.List.{List}
-use Rattle.wire.specs.Machine.{Parts, line, tick, State, Out, out, lined}
+use Rattle.wire.specs.Machine.{Parts, line, tick, State, Out, out, lined, mastersLine}
 use Rattle.wire.specs.declared.Side.the-variants.{Memory, Companion}
 use Rattle.wire.specs.declared.Phase.{Phase}
 use Rattle.wire.specs.declared.Phase.the-variants.{Idle}
 use Rattle.isolation.specs.Merge.{Reader, between, listOf, done, turn, bus, ticks}
 use Rattle.isolation.specs.Party.{Party, to, foreign, isMemory, isCompanion, PartyEvent, Fair}
-use Rattle.isolation.specs.Apart.{mastersLine, Steady, KeptApart}
+use Rattle.isolation.specs.Apart.{Steady, KeptApart}
 use Rattle.isolation.proofs.Stands.{Stands, stands-next}
 use Rattle.isolation.proofs.Own.{withDesk, withStore, memory-own, companion-own, foreign-own}
 use Rattle.isolation.proofs.Follows.{by-memory, by-companion, by-foreign}

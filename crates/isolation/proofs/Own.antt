@@ -10,13 +10,12 @@ use mathlib.Core.Bool.{Bool}
 use Rattle.wire.specs.Bits.{Place, first, within, last, ack, placeAt}
 use Rattle.wire.specs.Clock.{receivedAt, received}
 use Rattle.wire.specs.Kinds.{slaveByte, memoryByte}
-use Rattle.wire.specs.Machine.{Parts, Line, start, stop, clock, Out, out, neither, beside, clocked, lined}
+use Rattle.wire.specs.Machine.{Parts, Line, start, stop, clock, Out, out, neither, beside, clocked, lined, mastersLine}
 use Rattle.wire.specs.declared.Side.the-variants.{Memory, Companion}
 use Rattle.wire.specs.declared.Phase.{Phase}
 use Rattle.wire.specs.declared.Phase.the-variants.{Idle, Slave, AddressHigh, AddressLow, Pointer, Write, Read}
 use Rattle.isolation.specs.Merge.{Reader, between, calling, moving, Calls, MayStand}
 use Rattle.isolation.specs.Party.{to, foreign}
-use Rattle.isolation.specs.Apart.{mastersLine}
 use Rattle.isolation.proofs.Stands.{Byte, Serves, Stands}
 
 module _ (P : Parts) where

@@ -1,24 +1,19 @@
 -- SPDX-License-Identifier: Apache-2.0
 -- The two devices of a part keep apart (demand 3), whatever else is on the bus.
 --   run, answersOf           a list that is run, and what is looked at of its answers
---   mastersLine, masters     the lines that the master alone makes
+--   masters                  the lines that the master alone makes
 --   Steady                   no event changes the protection
 --   Follows, KeptApart       a device does as its own list alone; both do, and are silent in all other transactions
 -- Assumes nothing.
 use mathlib.Core.Path.{_≡_}
 use mathlib.Core.Bool.{Bool, true}
 use mathlib.Core.List.{List, [], _∷_}
-use Rattle.wire.specs.Machine.{Parts, Line, start, stop, clock, Event, line, tick, State, Answer, step, answerOf}
+use Rattle.wire.specs.Machine.{Parts, Line, start, stop, clock, Event, line, tick, State, Answer, step, answerOf, mastersLine}
 use Rattle.isolation.specs.Merge.{eventsOf, picked, listOf}
 use Rattle.isolation.specs.Party.{Party, isMemory, isCompanion, isForeign, BusEvent, PartyEvent}
 
 -- 01, Event bytes and answer bytes: "for a Clock, low if the master or the device pulls it low; for other events 1";
 -- here by the master alone.
-abbrev pub mastersLine : Line → Bool
-mastersLine start = true
-mastersLine stop = true
-mastersLine (clock d) = d
-
 abbrev pub masters : {T : Type 0} → List (Event T) → List Bool
 masters [] = []
 masters (line x ∷ es) = mastersLine x ∷ masters es

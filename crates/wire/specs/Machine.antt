@@ -42,6 +42,12 @@ pub data Line : Type 0 where
   start stop : Line
   clock : Bool → Line
 
+-- 01, Event bytes: "For a Clock, low if the master or the device pulls it low; for other events 1". Here the master alone.
+abbrev pub mastersLine : Line → Bool
+mastersLine start = true
+mastersLine stop = true
+mastersLine (clock d) = d
+
 pub data Event (Tick : Type 0) : Type 0 where
   line : Line → Event Tick
   tick : Tick → Event Tick
