@@ -12,6 +12,7 @@ use wire::Phase;
 use wire::Side;
 use wire::between::go_on;
 use wire::between::keep;
+use wire::between::sending;
 use wire::bits::push;
 use wire::bits::sending_line;
 
@@ -107,46 +108,31 @@ pub(crate) fn load_clock(companion: Companion, clocks: u8, byte: u8, high: bool)
 {
     if clocks == 0 {
         let fixed = companion.load();
-        let phase = Phase::Read {
-            side: Side::Companion,
-            clocks: 1,
-            byte: fixed,
-        };
+        let line = sending_line(fixed, 0, high);
         return Changed {
-            phase: phase,
+            phase: sending(Side::Companion, 1, fixed),
             companion: companion,
-            line: sending_line(fixed, 0, high),
+            line: line,
         };
     }
     if clocks < 7 {
-        let phase = Phase::Read {
-            side: Side::Companion,
-            clocks: clocks + 1,
-            byte: byte,
-        };
+        let line = sending_line(byte, clocks, high);
         return Changed {
-            phase: phase,
+            phase: sending(Side::Companion, clocks + 1, byte),
             companion: companion,
-            line: sending_line(byte, clocks, high),
+            line: line,
         };
     }
     if clocks == 7 {
-        let phase = Phase::Read {
-            side: Side::Companion,
-            clocks: 8,
-            byte: byte,
-        };
+        let line = sending_line(byte, 7, high);
+        let next = companion.loaded(byte);
         return Changed {
-            phase: phase,
-            companion: companion.loaded(byte),
-            line: sending_line(byte, 7, high),
+            phase: sending(Side::Companion, 8, byte),
+            companion: next,
+            line: line,
         };
     }
-    let phase = Phase::Read {
-        side: Side::Companion,
-        clocks: 0,
-        byte: 0,
-    };
+    let phase = sending(Side::Companion, 0, 0);
     Changed {
         phase: go_on(high, phase),
         companion: companion,

@@ -8,10 +8,10 @@ ghost use Rattle.wire.specs.Kinds.{memoryRead};
 ghost use Rattle.wire.specs.Memory.{lent, byteAt, steppedOn};
 ghost use Rattle.wire.specs.Outcome.{movedOf};
 use crate::Moved;
-use crate::Phase;
 use crate::Side;
 use crate::address::next_address;
 use crate::between::go_on;
+use crate::between::sending;
 use crate::bits::sending_line;
 
 // A Clock in a data byte to the master.
@@ -29,46 +29,31 @@ pub fn fetch_clock(
     if clocks == 0 {
         let at = address as usize;
         let fixed = memory[at];
-        let phase = Phase::Read {
-            side: Side::Memory,
-            clocks: 1,
-            byte: fixed,
-        };
+        let line = sending_line(fixed, 0, high);
         return Moved {
-            phase: phase,
+            phase: sending(Side::Memory, 1, fixed),
             address: address,
-            line: sending_line(fixed, 0, high),
+            line: line,
         };
     }
     if clocks < 7 {
-        let phase = Phase::Read {
-            side: Side::Memory,
-            clocks: clocks + 1,
-            byte: byte,
-        };
+        let line = sending_line(byte, clocks, high);
         return Moved {
-            phase: phase,
+            phase: sending(Side::Memory, clocks + 1, byte),
             address: address,
-            line: sending_line(byte, clocks, high),
+            line: line,
         };
     }
     if clocks == 7 {
-        let phase = Phase::Read {
-            side: Side::Memory,
-            clocks: 8,
-            byte: byte,
-        };
+        let line = sending_line(byte, 7, high);
+        let next = next_address(size, address);
         return Moved {
-            phase: phase,
-            address: next_address(size, address),
-            line: sending_line(byte, 7, high),
+            phase: sending(Side::Memory, 8, byte),
+            address: next,
+            line: line,
         };
     }
-    let phase = Phase::Read {
-        side: Side::Memory,
-        clocks: 0,
-        byte: 0,
-    };
+    let phase = sending(Side::Memory, 0, 0);
     Moved {
         phase: go_on(high, phase),
         address: address,
