@@ -12,30 +12,82 @@ SHELL := bash
 # The crates that export functions to C; each becomes build/native/libNAME.a and build/official/libNAME.a.
 ARCHIVES := rig
 
-# The program that `make demo` runs.
-DEMO := almanac
+# Where `make install` puts the library; DESTDIR goes before it.
+PREFIX ?= /usr/local
 
 CARGO_TEST := cargo test --offline --release --quiet
+FM3130 := cargo run --offline --release --quiet --package fm3130-cli --
 
-.PHONY: help test check demo lib second compare fmt fmt-check setup clean
+# The C side. The official archive is for x86-64, where it is also the native one.
+MACHINE := $(shell uname -m)
+CC_X86_64 := $(if $(filter x86_64,$(MACHINE)),$(CC),x86_64-linux-gnu-gcc)
+STRICT := -O2 -Wall -Wextra -Wpedantic -Werror -Iinclude
+C99 := -std=c99 $(STRICT)
+VERSION := $(shell sed -n 's/^.define FM3130_VERSION "\(.*\)"$$/\1/p' include/fm3130.h)
+HOST := build/host/fm3130-host
+SESSION := scripts/proving-session.bus
+
+# Frames of events, and the lines that the second program wrote for them.
+FRAMES := crates/standin/stdin crates/standin/stdout
+
+# Prints fm3130.pc for a folder of headers and a folder of libraries.
+pkg_config = sed -e 's|@INCLUDE@|$(1)|' -e 's|@LIB@|$(2)|' -e 's|@VERSION@|$(VERSION)|' include/fm3130.pc.in
+
+.PHONY: help test check demo lib archives install host ctest second compare fmt fmt-check setup clean
 
 help: ## list these targets
 	@awk -F':.*## ' '/^[a-z-]+:.*## / { printf "make %-10s %s\n", $$1, $$2 }' Makefile
 
 # `rt ci` stands last, so that the last line printed is its "N passed, 0 failed".
-test: setup lib ## everything: set-up, the archives, the tests in Rust, then all proofs from nothing (rt ci)
+test: setup lib ctest ## everything: set-up, the archives, the tests in C and Rust, then all proofs from nothing (rt ci)
 	@$(CARGO_TEST)
 	@rt ci
 
 check: ## prove the crates that changed, and run the programs
 	@rt check
 
-demo: ## prove and run the demonstration, and show what it prints
-	@rt check $(DEMO)
-	@cat target/log/$(DEMO).stdout
+demo: setup lib host ## play a proving session through the C host, in words, and draw its wires
+	@mkdir -p build/demo
+	@$(HOST) --session --save-events build/demo/events --answers build/demo/answers | tee build/demo/proving-session.txt
+	@$(FM3130) run $(SESSION) --quiet --answers build/demo/script-answers \
+		--vcd build/demo/proving-session.vcd --svg build/demo/proving-session.svg
+	@cmp build/demo/answers build/demo/script-answers
+	@printf '\nThe command fm3130 played %s and got the same answers. To look at:\n' $(SESSION)
+	@printf '  build/demo/proving-session.%s\n' 'txt  the words above' 'svg  the wires, for a browser' \
+		'vcd  the wires, for GTKWave or PulseView'
 
-lib: ## the proved archives: build/native (this machine), build/official (x86-64)
+lib: archives ## the proved archives: build/native (this machine), build/official (x86-64); for C: build/lib
+	@mkdir -p build/lib/x86_64
+	@cp build/official/librig.a build/lib/x86_64/libfm3130.a
+	@cp $(if $(filter x86_64,$(MACHINE)),build/official,build/native)/librig.a build/lib/libfm3130.a
+	@$(call pkg_config,$${pcfiledir}/../../include,$${pcfiledir}) >build/lib/fm3130.pc
+
+archives:
 	@for crate in $(ARCHIVES); do tools/native-archive.sh "$$crate"; done
+
+install: lib ## the library for C: header, archive and fm3130.pc below DESTDIR and PREFIX
+	@install -d "$(DESTDIR)$(PREFIX)/include" "$(DESTDIR)$(PREFIX)/lib/pkgconfig"
+	@install -m 644 include/fm3130.h "$(DESTDIR)$(PREFIX)/include/fm3130.h"
+	@install -m 644 build/lib/libfm3130.a "$(DESTDIR)$(PREFIX)/lib/libfm3130.a"
+	@$(call pkg_config,$(PREFIX)/include,$(PREFIX)/lib) >"$(DESTDIR)$(PREFIX)/lib/pkgconfig/fm3130.pc"
+	@echo "installed below $(DESTDIR)$(PREFIX): include/fm3130.h, lib/libfm3130.a, lib/pkgconfig/fm3130.pc"
+
+host: lib ## the rig's host program in C: build/host/fm3130-host
+	@mkdir -p build/host
+	@$(CC) $(C99) -D_POSIX_C_SOURCE=200809L host/*.c build/native/librig.a -o $(HOST)
+
+ctest: lib host ## the archives through the C header (the official one too), the host, the guide's program
+	@mkdir -p build/ctest
+	@$(CC) $(C99) tests/c/official.c tests/c/frames.c build/native/librig.a -o build/ctest/native
+	@$(CC_X86_64) $(C99) -static tests/c/official.c tests/c/frames.c build/official/librig.a -o build/ctest/official
+	@$(CXX) $(STRICT) tests/c/plusplus.cc build/lib/libfm3130.a -o build/ctest/plusplus
+	@build/ctest/native $(FRAMES)
+	@tools/run-x86-64.sh build/ctest/official $(FRAMES)
+	@build/ctest/plusplus
+	@tests/c/host.sh $(HOST) build/ctest/host
+	@tests/c/guide.sh build/ctest/guide $(CC) $(C99)
+	@$(FM3130) events $(SESSION) -o build/ctest/session.events
+	@cmp build/ctest/session.events build/ctest/host/session
 
 second: ## the tests of the second program, which is written apart from the crates
 	@$(CARGO_TEST) --package second

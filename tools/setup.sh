@@ -25,6 +25,7 @@ need make make
 need cargo cargo
 need rustc rustc
 need cc gcc
+need c++ g++ # to see that the header for C is one for C++ too
 need_static_libc cc libc6-dev
 if [ "$(uname -m)" != x86_64 ]; then
     # to link a program with the official archive, which is for x86-64

@@ -1,0 +1,63 @@
+/* SPDX-License-Identifier: Apache-2.0 */
+/* One device over fm3130.h. No rule of the part stands here: the proved archive is asked. */
+#include "device.h"
+
+#include <stdio.h>
+#include <stdlib.h>
+#include <string.h>
+
+void device_fresh(struct device *device) {
+    memset(device->memory, 0, sizeof device->memory);
+    fm3130_fresh(device->image, sizeof device->image);
+}
+
+/* The list run on this device, with as many answers as events. */
+static uint64_t run(struct device *device, const uint8_t *events, uint64_t count,
+                    uint8_t *answers) {
+    return fm3130_run(device->image, sizeof device->image, device->memory, sizeof device->memory,
+                      events, count, answers, count)
+        .number;
+}
+
+uint64_t device_number(struct device *device) {
+    uint8_t none[2] = {0, 0}; /* an empty buffer is any address; the two do not overlap */
+    return run(device, &none[0], 0, &none[1]);
+}
+
+uint8_t device_do(struct device *device, uint8_t event) {
+    uint8_t answer = 0;
+    uint64_t number = run(device, &event, 1, &answer);
+    if (number != FM3130_OK) {
+        fprintf(stderr, "fm3130-host: a tested device is refused: %s\n", number_words(number));
+        abort();
+    }
+    return answer;
+}
+
+uint8_t device_pin(const struct device *device) {
+    struct device copy = *device;
+    int is_on = device->image[IMAGE_POWER] == 0;
+    return device_do(&copy, is_on ? FM3130_POWER_RETURNED : FM3130_POWER_LOST_WITH_BACKUP);
+}
+
+unsigned device_memory_address(const struct device *device) {
+    const uint8_t *place = device->image + IMAGE_MEMORY_ADDRESS;
+    return place[0] * 256u + place[1];
+}
+
+unsigned device_companion_address(const struct device *device) {
+    return device->image[IMAGE_COMPANION_ADDRESS];
+}
+
+const char *number_words(uint64_t number) {
+    static const char *const words[] = {
+        "done",
+        "memory is not 8,192 bytes (number 1)",
+        "image is not 64 bytes, or no well-formed state writes it (number 2)",
+        "some event byte is above 7 (number 3)",
+        "answers shorter than events (number 4)",
+        "selector neither 0 (memory) nor 1 (registers) (number 5)",
+        "start + length passes the end of the chosen bytes (number 6)",
+    };
+    return number < sizeof words / sizeof words[0] ? words[number] : "a number that is none";
+}

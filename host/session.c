@@ -1,0 +1,159 @@
+/* SPDX-License-Identifier: Apache-2.0 */
+/*
+ * A full proving session: power up, the clock set, a lamp bit proved, a hang inside a byte, power
+ * lost and returned, and what is left of it all. scripts/proving-session.bus has the same events.
+ */
+#include "session.h"
+
+#include "files.h"
+
+static void add(struct session *session, uint8_t event) {
+    if (session->count == SESSION_ROOM) {
+        fail(EXIT_SESSION, "the session has more than %d events", SESSION_ROOM);
+    }
+    session->events[session->count++] = event;
+}
+
+/* So many clocks of a byte, high bit first. */
+static void add_clocks(struct session *session, unsigned byte, unsigned clocks) {
+    for (unsigned i = 0; i < clocks; i++) {
+        add(session, byte << i & 0x80 ? FM3130_CLOCK_HIGH : FM3130_CLOCK_LOW);
+    }
+}
+
+/* A Start, and bytes that the master writes; at each ninth clock it releases the line. */
+static void add_written(struct session *session, const uint8_t *bytes, size_t count) {
+    add(session, FM3130_START);
+    for (size_t i = 0; i < count; i++) {
+        add_clocks(session, bytes[i], 8);
+        add(session, FM3130_CLOCK_HIGH);
+    }
+}
+
+/* A whole write: the bytes between a Start and a Stop. */
+static void add_write(struct session *session, const uint8_t *bytes, size_t count) {
+    add_written(session, bytes, count);
+    add(session, FM3130_STOP);
+}
+
+/* A repeated Start, a slave byte that reads, and so many bytes; the last is not acknowledged. */
+static void add_read(struct session *session, uint8_t slave, unsigned count) {
+    add_written(session, &slave, 1);
+    for (unsigned i = 1; i <= count; i++) {
+        add_clocks(session, 0xFF, 8);
+        add(session, i < count ? FM3130_CLOCK_LOW : FM3130_CLOCK_HIGH);
+    }
+    add(session, FM3130_STOP);
+}
+
+/* Reads registers from an address on. */
+static void add_read_registers(struct session *session, uint8_t address, unsigned count) {
+    const uint8_t pointer[] = {0xD0, address};
+    add_written(session, pointer, sizeof pointer);
+    add_read(session, 0xD1, count);
+}
+
+/* Reads the lamp's byte. */
+static void add_read_lamp(struct session *session) {
+    static const uint8_t address[] = {0xA0, 0x10, 0x00};
+    add_written(session, address, sizeof address);
+    add_read(session, 0xA1, 1);
+}
+
+static void add_ticks(struct session *session, unsigned count) {
+    for (unsigned i = 0; i < count; i++) {
+        add(session, FM3130_TICK);
+    }
+}
+
+static void power_up(struct session *session) {
+    add(session, FM3130_POWER_LOST_WITHOUT_BACKUP);
+    add(session, FM3130_POWER_RETURNED);
+    add_read_registers(session, 0x00, 1);
+}
+
+static void set_clock(struct session *session) {
+    static const uint8_t run[] = {0xD0, 0x01, 0x00};
+    static const uint8_t open[] = {0xD0, 0x00, 0x02};
+    static const uint8_t time[] = {0xD0, 0x02, 0x58, 0x59, 0x08, 0x07, 0x15, 0x11, 0x26};
+    static const uint8_t close[] = {0xD0, 0x00, 0x00};
+    add_write(session, run, sizeof run);
+    add_write(session, open, sizeof open);
+    add_write(session, time, sizeof time);
+    add_write(session, close, sizeof close);
+    add_ticks(session, 3);
+    add_read_registers(session, 0x02, 3);
+}
+
+static void prove_lamp(struct session *session) {
+    static const uint8_t lamp[] = {0xA0, 0x10, 0x00, 0x01};
+    add_write(session, lamp, sizeof lamp);
+    add_read_lamp(session);
+}
+
+static void hang(struct session *session) {
+    static const uint8_t address[] = {0xA0, 0x10, 0x00};
+    add_written(session, address, sizeof address);
+    add_clocks(session, 0x00, 5);
+    add_ticks(session, 2);
+}
+
+static void lose_power(struct session *session) {
+    add(session, FM3130_POWER_LOST_WITH_BACKUP);
+    add_ticks(session, 3);
+    add(session, FM3130_POWER_RETURNED);
+    add_read_registers(session, 0x00, 1);
+}
+
+static void look_again(struct session *session) {
+    add_read_registers(session, 0x02, 3);
+    add_read_lamp(session);
+}
+
+/* A step: what it is, its events, the last byte it must read (or -1), and what that says. */
+struct step {
+    const char *title;
+    void (*events)(struct session *session);
+    int read;
+    const char *outcome;
+};
+
+static const struct step steps[SESSION_STEPS] = {
+    {"Power up, with no supply before", power_up, 0x90,
+     "LB and POR are 1: the registers were lost"},
+    {"Set the clock to 08:59:58 on 15/11/26, day 7, and wait three seconds", set_clock, 0x09,
+     "it is nine o'clock"},
+    {"Prove a lamp bit: write 01h at 1000h and read it back", prove_lamp, 0x01,
+     "01h came back with all its clocks and its Stop: the bit is proved"},
+    {"The master hangs inside a byte: five clocks of 00h for the same place", hang, -1,
+     "nothing is stored before the eighth clock"},
+    {"Main power is lost, the backup holds for three seconds, power returns", lose_power, 0x10,
+     "POR is 1: power was lost, and LB is 0: the backup was there"},
+    {"What is left: the clock and the lamp bit", look_again, 0x01,
+     "the clock ran on, and the proved bit stands"},
+};
+
+void session_list(struct session *session) {
+    session->count = 0;
+    for (size_t i = 0; i < SESSION_STEPS; i++) {
+        steps[i].events(session);
+        session->ends[i] = session->count;
+    }
+}
+
+int session_tell(const struct session *session, struct story *story, uint8_t *answers) {
+    size_t from = 0;
+    int all_hold = 1;
+    for (size_t i = 0; i < SESSION_STEPS; i++) {
+        const struct step *step = &steps[i];
+        fprintf(story->out, "%s%zu. %s\n", i == 0 ? "" : "\n", i + 1, step->title);
+        story->last_read = -1;
+        story_go_on(story, session->events + from, session->ends[i] - from, answers + from);
+        story_pause(story);
+        int holds = story->last_read == step->read;
+        fprintf(story->out, "=> %s\n", holds ? step->outcome : "NOT AS IT MUST BE");
+        all_hold = all_hold && holds;
+        from = session->ends[i];
+    }
+    return all_hold;
+}

@@ -1,0 +1,233 @@
+/* SPDX-License-Identifier: Apache-2.0 */
+/*
+ * fm3130.h: a verified stand-in for the FM3130, for C and C++.
+ *
+ * The FM3130 is a clock-and-memory chip on a two-wire bus: 8,192 bytes of FRAM, 15 registers, a
+ * calendar, an alarm. The stand-in plays one of them at the level of single bus clocks. A host
+ * gives it event bytes and gets one answer byte for each. Voltages, edge times, the crystal and
+ * trickle charging are left out.
+ *
+ * A device is two buffers of the caller: an image of 64 bytes (all its state) and a memory of 8,192
+ * bytes. They are plain bytes: copy, store and compare them at will, also in the middle of a
+ * transfer. The image's first 15 bytes are registers 00h to 0Eh; docs/IMAGE.md has the rest.
+ *
+ *   fm3130_fresh        makes the image of a fresh device
+ *   fm3130_run          does a list of events on a device
+ *   fm3130_view_number  whether a part of the memory or of the registers can be viewed
+ *   fm3130_view         that part itself, never a copy (an inline function, below)
+ *
+ * A first call (docs/GUIDE.md has a whole program):
+ *
+ *   static uint8_t image[FM3130_IMAGE_BYTES], memory[FM3130_MEMORY_BYTES];
+ *   static const uint8_t events[] = {FM3130_START, FM3130_CLOCK_HIGH, FM3130_STOP};
+ *   uint8_t answers[sizeof events];
+ *   fm3130_fresh(image, sizeof image);
+ *   fm3130_run(image, sizeof image, memory, sizeof memory,
+ *              events, sizeof events, answers, sizeof answers);
+ *
+ * Link with libfm3130.a, which needs no other library, not even that of C. It is built for 64-bit
+ * targets, x86-64 and arm64.
+ *
+ * For every function: Allocates nothing, keeps nothing, thread-safe on distinct buffers. It does
+ * no input or output and always returns.
+ *
+ * The caller's duties, for every function:
+ *   - No pointer is null, also where its length is 0: an empty buffer is any valid address.
+ *   - Each buffer has at least as many bytes as its length says; those it writes can be written.
+ *   - No two buffers of a call overlap.
+ *   - Nobody else writes to the buffers of a call while it runs.
+ * The functions are proved for callers that keep these duties, and the proved facts reach the
+ * optimiser: breaking one is undefined behaviour, not a refusal. Nothing else is asked. Every
+ * length and every byte in the buffers is allowed, and what cannot be done is refused by a number.
+ *
+ * What is proved: for all lengths and bytes, what is returned and what is left in every buffer is
+ * one definition of what was given, so no second outcome is possible. The contract is named at
+ * each function; its definition stands in crates/rig/specs, and that it leaves no choice is proved
+ * in crates/rig/proofs/Unique.antt. Not proved: the compiler, and the inline function in this
+ * header, which is tested (tests/c).
+ */
+#ifndef FM3130_H
+#define FM3130_H
+
+#include <stdint.h>
+
+#ifdef __cplusplus
+extern "C" {
+#endif
+
+/*
+ * Version of this header and the archive that comes with it.
+ *   MAJOR  a host may have to be changed: a name, a type, a meaning, or the layout of the image
+ *   MINOR  something was added: hosts compile, link and behave as before
+ *   PATCH  nothing that a host can see, but for errors that were put right
+ */
+#define FM3130_VERSION_MAJOR 0
+#define FM3130_VERSION_MINOR 1
+#define FM3130_VERSION_PATCH 0
+#define FM3130_VERSION "0.1.0"
+
+/* Sizes in bytes. The registers are the front of the image. */
+#define FM3130_IMAGE_BYTES 64
+#define FM3130_MEMORY_BYTES 8192
+#define FM3130_REGISTER_BYTES 15
+
+/* Events, one byte each. The list run refuses any greater byte. */
+enum fm3130_event {
+    FM3130_START = 0,                     /* Start */
+    FM3130_STOP = 1,                      /* Stop */
+    FM3130_CLOCK_LOW = 2,                 /* Clock with the master's data line low */
+    FM3130_CLOCK_HIGH = 3,                /* Clock with it high, that is, released */
+    FM3130_TICK = 4,                      /* one-second tick */
+    FM3130_POWER_LOST_WITH_BACKUP = 5,    /* main power lost, backup present */
+    FM3130_POWER_LOST_WITHOUT_BACKUP = 6, /* main power lost, no backup */
+    FM3130_POWER_RETURNED = 7             /* main power returned */
+};
+
+/*
+ * Answers, one byte for each event. Bits 4 to 7 are 0.
+ *   bit 0        the line: for a Clock, low (0) if the master or the device pulls it low; else 1
+ *   bits 2 and 1 the ACS pin's function after the event, see below
+ *   bit 3        1 exactly when the function is alarm and the alarm flag AF is 1
+ */
+#define FM3130_ANSWER_LINE 0x01u
+#define FM3130_ANSWER_PIN 0x06u
+#define FM3130_ANSWER_PIN_SHIFT 1
+#define FM3130_ANSWER_ALARM 0x08u
+
+/* The ACS pin's functions: (answer & FM3130_ANSWER_PIN) >> FM3130_ANSWER_PIN_SHIFT. */
+enum fm3130_pin {
+    FM3130_PIN_RELEASED = 0,    /* released */
+    FM3130_PIN_ALARM = 1,       /* alarm */
+    FM3130_PIN_SQUARE_WAVE = 2, /* square wave */
+    FM3130_PIN_CALIBRATION = 3  /* calibration */
+};
+
+/*
+ * Numbers. 0 is done; every other is a refusal, under which no buffer is written. They are tested
+ * in this order, each function those that are named there, and the first that applies is given.
+ */
+enum fm3130_number {
+    FM3130_OK = 0,               /* none below */
+    FM3130_WRONG_MEMORY = 1,     /* memory is not 8,192 bytes */
+    FM3130_WRONG_STATE = 2,      /* image is not 64 bytes, or no well-formed state writes it
+                                    (the viewer tests length only) */
+    FM3130_UNKNOWN_EVENT = 3,    /* some event byte is above 7 */
+    FM3130_SHORT_ANSWERS = 4,    /* answers shorter than events */
+    FM3130_UNKNOWN_SELECTOR = 5, /* viewer: selector neither 0 (memory) nor 1 (registers) */
+    FM3130_PAST_THE_END = 6      /* viewer: start + length (exact sum) passes the end of the
+                                    chosen bytes */
+};
+
+/* The viewer's selectors. */
+enum fm3130_selector {
+    FM3130_VIEW_MEMORY = 0,   /* the 8,192 bytes of memory */
+    FM3130_VIEW_REGISTERS = 1 /* the first 15 bytes of the image, registers 00h to 0Eh */
+};
+
+/* What the list run returns. */
+struct fm3130_ran {
+    uint64_t number; /* enum fm3130_number, 0 to 4 */
+    uint64_t count;  /* the events done: all of them under number 0, else none */
+};
+
+/*
+ * Makes a fresh device: registers as when both supplies were gone (OSCEN, POR and LB are 1, day,
+ * date and month are 1, all else 0), power on, no transfer, both addresses 0. The memory is not
+ * part of it: FRAM keeps its bytes, and any 8,192 bytes are a memory.
+ *
+ *   image    image_length bytes, should be 64; written
+ *
+ * Returns  image
+ *   0      the fresh image, all 64 bytes
+ *   2      unchanged (its length is not 64)
+ *
+ * Proved: FreshSettled, crates/rig/specs/Fresh.antt. Allocates nothing, keeps nothing, thread-safe
+ * on distinct buffers.
+ */
+uint64_t fm3130_fresh(uint8_t *image, uint64_t image_length);
+
+/*
+ * Does a list of events, one by one, on a device. All that can be refused is tested before the
+ * first event is done. A list may be cut into pieces at any place, each piece a call: the outcome
+ * is the same. An empty list is accepted.
+ *
+ *   image    image_length bytes, must be 64 and an image that fm3130_fresh or fm3130_run left, or
+ *            any other that keeps the limits in docs/IMAGE.md; read and written
+ *   memory   memory_length bytes, must be 8,192, any values; read and written
+ *   events   events_length bytes, any number of them, each at most 7; read
+ *   answers  answers_length bytes, at least as many as events; written
+ *
+ * Returns                       image              memory          answers
+ *   number 0, count the events  the state after    the bytes       one byte for each event; bytes
+ *                               the last event     after it        past them are unchanged
+ *   number 1 to 4, count 0      unchanged          unchanged       unchanged
+ *
+ *   1      memory_length is not 8,192
+ *   2      image_length is not 64, or no well-formed state writes the image
+ *   3      some event byte is above 7
+ *   4      answers_length is less than events_length
+ *
+ * Proved: RunSettled, crates/rig/specs/Run.antt. Allocates nothing, keeps nothing, thread-safe on
+ * distinct buffers.
+ */
+struct fm3130_ran fm3130_run(uint8_t *image, uint64_t image_length, uint8_t *memory,
+                             uint64_t memory_length, const uint8_t *events, uint64_t events_length,
+                             uint8_t *answers, uint64_t answers_length);
+
+/*
+ * Whether a part of the memory or of the registers can be viewed.
+ *
+ *   image    image_length bytes, must be 64, any values; read
+ *   memory   memory_length bytes, must be 8,192, any values; read
+ *   selector enum fm3130_selector
+ *   start    the first byte of the part
+ *   length   its bytes; 0 is accepted, also at the very end
+ *
+ * Returns; no buffer is written
+ *   0      the part lies within the chosen bytes
+ *   1      memory_length is not 8,192
+ *   2      image_length is not 64 (whether a state writes it is not tested)
+ *   5      selector is neither 0 nor 1
+ *   6      start + length passes 8,192 or 15, the end of the chosen bytes; the sum is exact, it
+ *          does not wrap
+ *
+ * Proved: ViewNumberSettled, crates/rig/specs/View.antt. Allocates nothing, keeps nothing,
+ * thread-safe on distinct buffers.
+ */
+uint64_t fm3130_view_number(const uint8_t *image, uint64_t image_length, const uint8_t *memory,
+                            uint64_t memory_length, uint64_t selector, uint64_t start,
+                            uint64_t length);
+
+/*
+ * The viewer: a part of the caller's memory or registers, never a copy. The part is as fresh and
+ * lives as long as the buffer it lies in.
+ *
+ *   image    FM3130_IMAGE_BYTES bytes, any values; read
+ *   memory   FM3130_MEMORY_BYTES bytes, any values; read
+ *   selector, start, length   as above
+ *   number   not null; set to the number of fm3130_view_number, 0, 5 or 6
+ *
+ * Returns, under number 0, the address of the part: memory + start or image + start, with length
+ * bytes there. Under every other number the part is empty: the address is memory, and none of its
+ * bytes belong to the part.
+ *
+ * Tested, not proved (the proved viewer is `view` in crates/rig/src/view.rt, for callers in
+ * Rattle: an exported function cannot return a reference). Allocates nothing, keeps nothing,
+ * thread-safe on distinct buffers.
+ */
+static inline const uint8_t *fm3130_view(const uint8_t *image, const uint8_t *memory,
+                                         uint64_t selector, uint64_t start, uint64_t length,
+                                         uint64_t *number) {
+    *number = fm3130_view_number(image, FM3130_IMAGE_BYTES, memory, FM3130_MEMORY_BYTES, selector,
+                                 start, length);
+    if (*number != FM3130_OK) {
+        return memory;
+    }
+    return (selector == FM3130_VIEW_MEMORY ? memory : image) + start;
+}
+
+#ifdef __cplusplus
+}
+#endif
+
+#endif /* FM3130_H */

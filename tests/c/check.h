@@ -1,0 +1,26 @@
+/* SPDX-License-Identifier: Apache-2.0 */
+/* What the C tests share: a check that ends the program at the first difference. */
+#ifndef TESTS_CHECK_H
+#define TESTS_CHECK_H
+
+#include <stdint.h>
+
+#ifdef __GNUC__
+#define ENDS_LIKE_PRINTF __attribute__((noreturn, format(printf, 1, 2)))
+#else
+#define ENDS_LIKE_PRINTF
+#endif
+
+/* Says what differs, as printf does, and ends the program with status 1. */
+void differ(const char *format, ...) ENDS_LIKE_PRINTF;
+
+/* Two numbers that must be equal; `what` says of which case. */
+void check_equal(const char *what, uint64_t is, uint64_t must_be);
+
+/*
+ * Runs the frames of a file and compares with the lines that the second program wrote for them.
+ * Returns the number of events.
+ */
+unsigned long check_frames(const char *frames, const char *lines);
+
+#endif

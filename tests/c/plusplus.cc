@@ -1,0 +1,25 @@
+// SPDX-License-Identifier: Apache-2.0
+// The header in C++: its names link, and K12's exact run has its answers.
+#include "fm3130.h"
+
+#include "fm3130.h" // twice is once
+
+#include <cstdio>
+#include <cstring>
+
+int main() {
+    static uint8_t image[FM3130_IMAGE_BYTES], memory[FM3130_MEMORY_BYTES];
+    static const uint8_t events[] = {0, 3, 2, 3, 2, 2, 2, 2, 2, 3, 1};
+    static const uint8_t expected[] = {5, 5, 4, 5, 4, 4, 4, 4, 4, 4, 5};
+    uint8_t answers[sizeof events];
+    uint64_t number = fm3130_fresh(image, sizeof image);
+    fm3130_ran ran = fm3130_run(image, sizeof image, memory, sizeof memory, events, sizeof events,
+                                answers, sizeof answers);
+    const uint8_t *day = fm3130_view(image, memory, FM3130_VIEW_REGISTERS, 5, 1, &number);
+    if (ran.number != FM3130_OK || ran.count != sizeof events || number != FM3130_OK ||
+        day != image + 5 || std::memcmp(answers, expected, sizeof answers) != 0) {
+        std::fputs("ctest: DIFFERENT: K12 in C++\n", stderr);
+        return 1;
+    }
+    return 0;
+}
