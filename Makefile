@@ -33,7 +33,10 @@ FRAMES := crates/standin/stdin crates/standin/stdout
 # Prints fm3130.pc for a folder of headers and a folder of libraries.
 pkg_config = sed -e 's|@INCLUDE@|$(1)|' -e 's|@LIB@|$(2)|' -e 's|@VERSION@|$(VERSION)|' include/fm3130.pc.in
 
-.PHONY: help test check demo lib archives install host ctest second compare fmt fmt-check setup clean
+# How long `make fuzz` runs.
+SECONDS := 600
+
+.PHONY: help test check demo lib archives install host ctest second compare bench fuzz fmt fmt-check setup clean
 
 help: ## list these targets
 	@awk -F':.*## ' '/^[a-z-]+:.*## / { printf "make %-10s %s\n", $$1, $$2 }' Makefile
@@ -93,8 +96,17 @@ second: ## the tests of the second program, which is written apart from the crat
 	@$(CARGO_TEST) --package second
 
 compare: lib ## the proved program and the second program, side by side
-	@test -d compare || { echo "make: this checkout has no folder compare" >&2; exit 1; }
-	@cargo run --offline --release --quiet --package compare
+	@$(CARGO_TEST) --package compare
+
+# Neither of the next two is part of `make test`: times differ from machine to machine, and a search has no end.
+bench: lib ## the proved list run timed beside plain programs; the tables also go to build/bench/SPEED.md
+	@tools/setup.sh bench
+	@mkdir -p build/bench
+	@cargo run --offline --release --quiet --package bench | tee build/bench/SPEED.md
+
+fuzz: lib ## chosen bytes at the archive's C boundary, for SECONDS=600
+	@tools/setup.sh fuzz
+	@tools/fuzz.sh $(SECONDS)
 
 fmt: ## format all Rattle and Rust files
 	@rt fmt

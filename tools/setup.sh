@@ -1,8 +1,9 @@
 #!/bin/sh
 # SPDX-License-Identifier: Apache-2.0
-# setup.sh [bench]: sees that all that `make test` needs is on this Debian machine, and installs what
-# is missing; with the word bench, also what the measurements need. It says nothing and needs no
-# network where all is there. The Rattle kit itself is in no package: without `rt` it stops.
+# setup.sh [bench|fuzz]: sees that all that `make test` needs is on this Debian machine, and installs
+# what is missing; with the word bench, also what the measurements need, with the word fuzz, also what
+# the fuzzer needs. It says nothing and needs no network where all is there. The Rattle kit itself is
+# in no package: without `rt` it stops.
 set -eu
 
 fail() { printf 'setup: %s\n' "$*" >&2; exit 1; }
@@ -21,6 +22,12 @@ need_static_libc() { # COMPILER PACKAGE
     case $("$1" -print-file-name=libc.a 2>/dev/null) in */*) ;; *) missing="$missing $2" ;; esac
 }
 
+# Notes PACKAGE as missing unless clang links a fuzz target with the sanitizers.
+need_fuzzer() { # PACKAGE
+    echo 'int LLVMFuzzerTestOneInput(const unsigned char *at, unsigned long size) { return !at && size; }' |
+        clang -x c -fsanitize=fuzzer,address,undefined -o /dev/null - 2>/dev/null || missing="$missing $1"
+}
+
 need make make
 need cargo cargo
 need rustc rustc
@@ -35,7 +42,11 @@ fi
 case ${1:-} in
 '') ;;
 bench) need valgrind valgrind ;;
-*) fail "usage: setup.sh [bench]" ;;
+fuzz)
+    need clang clang
+    need_fuzzer libclang-rt-14-dev # of Debian 12's clang
+    ;;
+*) fail "usage: setup.sh [bench|fuzz]" ;;
 esac
 
 [ -n "$missing" ] || exit 0

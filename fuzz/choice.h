@@ -1,0 +1,42 @@
+/* SPDX-License-Identifier: Apache-2.0 */
+/* The fuzzer's bytes, taken one after another as choices; once they are used up, every choice is 0. */
+#ifndef CHOICE_H
+#define CHOICE_H
+
+#include <stddef.h>
+#include <stdint.h>
+
+struct choices {
+    const uint8_t *next;
+    size_t left;
+};
+
+static inline uint8_t choose_byte(struct choices *choices)
+{
+    if (choices->left == 0)
+        return 0;
+    choices->left--;
+    return *choices->next++;
+}
+
+static inline uint16_t choose_pair(struct choices *choices)
+{
+    uint16_t high = choose_byte(choices);
+    return (uint16_t)(high << 8 | choose_byte(choices));
+}
+
+/* Numbers around which sums wrap and limits lie, or any small one. */
+static inline uint64_t choose_number(struct choices *choices)
+{
+    uint16_t small = choose_pair(choices);
+    switch (choose_byte(choices) & 7) {
+    case 0: return UINT64_MAX - small;
+    case 1: return ((uint64_t)1 << 63) + small;
+    case 2: return (uint64_t)small << 48;
+    case 3: return 8192u + (uint64_t)small % 4 - 2;
+    case 4: return 15u + (uint64_t)small % 4 - 2;
+    default: return small;
+    }
+}
+
+#endif
