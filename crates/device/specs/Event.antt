@@ -33,7 +33,7 @@ happening e =
     (cond (eqb e 5) lost
     (cond (eqb e 6) gone returned))))))
 
--- Auxiliary: an event that is neither Start, Stop nor Clock, and touches no memory.
+-- Auxiliary: an event that touches no memory and leaves the line high.
 abbrev pub still : State → List ℕ → Done
 still s m = record { state = s; memory = m; line = true }
 
