@@ -1,11 +1,12 @@
 -- SPDX-License-Identifier: Apache-2.0
 -- Every event keeps a well-formed state well-formed and the memory's length. The bus events are the machine's theorem at the
--- FM3130; the others by cases on the supply. So all states that events reach from one between transfers are well-formed.
+-- FM3130; the others by cases on the supply. So all states that a list of events
+-- reaches from one between transfers are well-formed (`run-ok` of the list run).
 -- Assumes nothing.
 use Prim.Native.Nat.{ℕ, _+_, _*_, _<_}
 use mathlib.Core.Path.{_≡_, refl, sym, _∙_}
 use mathlib.Core.Bool.{Bool, true, false}
-use mathlib.Core.List.{List, [], _∷_}
+use mathlib.Core.List.{List}
 use native.Mathlib.Omega.{arith}
 use native.Mathlib.Nat.{mod-lt}
 use lib.ListN.{length, set, length-set}
@@ -135,21 +136,10 @@ event-ok s m e w h = event-on s m w h (s .power) (happening e)
 pub fresh-well-formed : wellFormed fresh ≡ true
 fresh-well-formed = idle-ok On lostOf lost-within
 
--- a state between transfers that is inside 01's limits is well-formed ..
+-- a state between transfers that is inside 01's limits is well-formed
 pub between-well-formed : (s : State) → s .phase ≡ Idle → s .address < memorySize → isWithin (s .companion) ≡ true
     → wellFormed s ≡ true
 unfolding phaseWithin
 between-well-formed s p a c =
     of-limits s
     (record { address = a; companion = c; phase = rw p refl; power = rw p (idle-power (s .power)) })
-
--- .. and so is every state that events reach from it
-abbrev pub reached : State → List ℕ → List ℕ → State
-reached s m [] = s
-reached s m (e ∷ es) = reached (eventOf s m e .state) (eventOf s m e .memory) es
-
-pub reached-well-formed : (s : State) (m es : List ℕ) → wellFormed s ≡ true → length m ≡ memorySize
-    → wellFormed (reached s m es) ≡ true
-reached-well-formed s m [] w h = w
-reached-well-formed s m (e ∷ es) w h =
-    let o = event-ok s m e w h in reached-well-formed (eventOf s m e .state) (eventOf s m e .memory) es (o .state) (o .memory)

@@ -28,9 +28,10 @@ use Rattle.device.specs.Event.{eventOf, still}
 use Rattle.device.specs.Limits.{wellFormed}
 use Rattle.device.specs.declared.Power.the-variants.{On}
 use Rattle.device.specs.declared.State.{State}
-use Rattle.rig.specs.Run.{runOf}
+use Rattle.rig.specs.Run.{Ended, runOf}
+use Rattle.rig.proofs.Pieces.{run-append}
+use Rattle.rig.proofs.Runs.{run-ok}
 use Rattle.device.proofs.Entry.{limits-of}
-use Rattle.device.proofs.Wellformed.{event-ok}
 use Rattle.table.specs.Stored.{after, memoryAfter, clockEvent, Rest, none, bit, tick, power, Byte, AtData, Pulls, StoredAt, AcknowledgedStored}
 use Rattle.table.proofs.Events.{clock-event, tick-event, power-event}
 
@@ -110,20 +111,12 @@ early {w = w} (tick {es = es} r) k q m s a g h =
 early {w = w} (power {es = es} r) k q m s a g h =
     onward (Left m a g w) s m es 7 (still s m) (power-event s m (h .on)) (early r k q m s a g h)
 
--- a list in two pieces
-pub after-append : (s : State) (m xs ys : List ℕ)
+-- a list in two pieces: the list run's own law, of state and memory
+after-append : (s : State) (m xs ys : List ℕ)
     → (after s m (xs ++ ys) ≡ after (after s m xs) (memoryAfter s m xs) ys)
     × (memoryAfter s m (xs ++ ys) ≡ memoryAfter (after s m xs) (memoryAfter s m xs) ys)
-unfolding runOf
-after-append s m [] ys = (refl, refl)
-after-append s m (e ∷ xs) ys = after-append (eventOf s m e .state) (eventOf s m e .memory) xs ys
-
--- the memory's length, and that the address is inside it, at every point of a run
-inside : (s : State) (m es : List ℕ) → wellFormed s ≡ true → length m ≡ memorySize
-    → (wellFormed (after s m es) ≡ true) × (length (memoryAfter s m es) ≡ memorySize)
-unfolding runOf
-inside s m [] w h = (w, h)
-inside s m (e ∷ es) w h = let o = event-ok s m e w h in inside (eventOf s m e .state) (eventOf s m e .memory) es (o .state) (o .memory)
+after-append s m xs ys =
+    let q = run-append s m xs ys in (ap (λ (r : Ended). r .state) q, ap (λ (r : Ended). r .memory) q)
 
 -- where the byte was refused the device pulls nothing
 quiet : (s : State) (m : List ℕ) (a g : ℕ) → Held s Idle a g → eventOf s m 3 .line ≡ true
@@ -157,11 +150,11 @@ byte-stored s m es w d start r h pulls =
 
 pub acknowledged-stored : AcknowledgedStored
 acknowledged-stored s m before byte w d wf h start r pulls =
-    let i = inside s m before wf h in
+    let i = run-ok s m before wf h in
     let s₀ = after s m before in
     let m₀ = memoryAfter s m before in
-    let l = limits-of s₀ (i .0) in
+    let l = limits-of s₀ (i .state) in
     let j = after-append s m before byte in
     let k = after-append s m before (byte ++ (clockEvent d ∷ [])) in
     let n = after-append s₀ m₀ byte (clockEvent d ∷ []) in
-    rw (k .1, n .1) (byte-stored s₀ m₀ byte w d start r (rw (i .1) (l .address)) (rw (j .0, j .1) at pulls))
+    rw (k .1, n .1) (byte-stored s₀ m₀ byte w d start r (rw (i .memory) (l .address)) (rw (j .0, j .1) at pulls))
