@@ -15,7 +15,7 @@ use borrow.Author.Tests.{lt-ltb, ltb-true, eqb-true, eqb-false}
 use Rattle.calendar.proofs.Width.{Within, within-facts, within-test}
 use Rattle.companion.specs.declared.Registers.{Registers}
 use Rattle.companion.specs.Registers.{registerAt, putAt, topAndBelow, storedAt}
-use Rattle.companion.specs.Limits.{gapless}
+use Rattle.companion.specs.Limits.{fixedClear}
 use Rattle.companion.proofs.Cases.{Below, none, _then_, below}
 use Rattle.companion.proofs.Bytes.{put-same, put-other}
 use Rattle.companion.proofs.LimitFacts.{RegistersWithin}
@@ -25,19 +25,19 @@ pub rest-fits : (span b : ℕ) → zero < span → ltb (b % span) span ≡ true
 rest-fits span b h = lt-ltb (b % span) span (mod-lt b h)
 
 -- bit 7 with a number below the width, and with a remainder
-pub top-fits : (span top n : ℕ) → n < span → span ≤ 128 → gapless span (top * 128 + n) ≡ true
+pub top-fits : (span top n : ℕ) → n < span → span ≤ 128 → fixedClear span (top * 128 + n) ≡ true
 top-fits span top n h l = lt-ltb ((top * 128 + n) % 128) span (omega arith)
 
-pub top-and-rest-fits : (span b : ℕ) → zero < span → span ≤ 128 → gapless span (topAndBelow span b) ≡ true
+pub top-and-rest-fits : (span b : ℕ) → zero < span → span ≤ 128 → fixedClear span (topAndBelow span b) ≡ true
 top-and-rest-fits span b h l = top-fits span (b / 128) (b % span) (mod-lt b h) l
 
 -- the limits' test of a byte at each address
 abbrev pub fits : ℕ → ℕ → Bool
 fits a b =
     getD
-    (true ∷ gapless 64 b
+    (true ∷ fixedClear 64 b
     ∷ ltb b 128 ∷ ltb b 128 ∷ ltb b 64 ∷ ltb b 8 ∷ ltb b 64 ∷ ltb b 32 ∷ true
-    ∷ true ∷ true ∷ gapless 64 b ∷ gapless 64 b ∷ gapless 32 b
+    ∷ true ∷ true ∷ fixedClear 64 b ∷ fixedClear 64 b ∷ fixedClear 32 b
     ∷ true ∷ [])
     a true
 
@@ -47,7 +47,7 @@ stored-fits a b h = below (λ a. fits a (storedAt a b) ≡ true) each a h
     rest : (span : ℕ) → T (ltb zero span) → ltb (b % span) span ≡ true
     rest span t = rest-fits span b (lit< t)
 
-    top : (span : ℕ) → T (ltb zero span) → T (leb span 128) → gapless span (topAndBelow span b) ≡ true
+    top : (span : ℕ) → T (ltb zero span) → T (leb span 128) → fixedClear span (topAndBelow span b) ≡ true
     top span t u = top-and-rest-fits span b (lit< t) (lit≤ u)
 
     each : Below (λ a. fits a (storedAt a b) ≡ true) 15

@@ -9,7 +9,7 @@ use borrow.Author.Tests.{leb-true, le-leb}
 use Rattle.calendar.specs.Width as width
 use Rattle.companion.specs.declared.Registers.{Registers}
 use Rattle.companion.specs.declared.Companion.{Companion}
-use Rattle.companion.specs.Limits.{gapless, alarmWithin, registersWithin, isWithin}
+use Rattle.companion.specs.Limits.{fixedClear, alarmWithin, registersWithin, isWithin}
 
 -- two tests, and three
 pub both-true : (a b : Bool) → a ≡ true → b ≡ true → (a && b) ≡ true
@@ -22,18 +22,18 @@ each-true a b c h =
     (g .0, (g .1, f .1))
 
 pub record RegistersWithin (r : Registers) : Type 0 where
-  pub trim : gapless 64 (r .trim) ≡ true
+  pub trim : fixedClear 64 (r .trim) ≡ true
   pub time : width.isWithin (r .time) ≡ true
-  pub hours : gapless 64 (r .alarm .hours) ≡ true
-  pub date : gapless 64 (r .alarm .date) ≡ true
-  pub month : gapless 32 (r .alarm .month) ≡ true
+  pub hours : fixedClear 64 (r .alarm .hours) ≡ true
+  pub date : fixedClear 64 (r .alarm .date) ≡ true
+  pub month : fixedClear 32 (r .alarm .month) ≡ true
 
 pub registers-facts : (r : Registers) → registersWithin r ≡ true → RegistersWithin r
 unfolding registersWithin alarmWithin
 registers-facts r h =
-    let f = each-true (gapless 64 (r .trim)) (width.isWithin (r .time)) (alarmWithin (r .alarm)) h in
+    let f = each-true (fixedClear 64 (r .trim)) (width.isWithin (r .time)) (alarmWithin (r .alarm)) h in
     let a = r .alarm in
-    let g = each-true (gapless 64 (a .hours)) (gapless 64 (a .date)) (gapless 32 (a .month)) (f .1 .1) in
+    let g = each-true (fixedClear 64 (a .hours)) (fixedClear 64 (a .date)) (fixedClear 32 (a .month)) (f .1 .1) in
     record { trim = f .0; time = f .1 .0; hours = g .0; date = g .1 .0; month = g .1 .1 }
 
 pub registers-test : (r : Registers) → RegistersWithin r → registersWithin r ≡ true

@@ -23,7 +23,7 @@ use Rattle.companion.specs.Control.{flagsAfter, coreAfter, frozen, follo
 use Rattle.companion.specs.Change.{withTime, withRegisters, withAddress}
 use Rattle.companion.specs.Write.{coreWritten, controlWritten, trimAfter, trimWritten, byteStored, writtenOf}
 use Rattle.companion.specs.Tick.{countedOf}
-use Rattle.companion.specs.Limits.{gapless, alarmWithin, registersWithin}
+use Rattle.companion.specs.Limits.{fixedClear, alarmWithin, registersWithin}
 use Rattle.companion.specs.Registers.{putAt}
 use Rattle.companion.specs.Power.{porSet}
 use Rattle.companion.specs.Part.{nextAddress, steppedOf, controlRead, aimOf, storeOf, loadedOf}
@@ -61,11 +61,11 @@ control-written-within c b w =
     let t = followed-within core (frozen old b core time) p q b in
     record { address = w .address; registers = time-within (c .registers) _ _ (w .registers) t; core = p }
 
-trim-within : (control old b : ℕ) → gapless 64 (trimAfter control old b) ≡ true
+trim-within : (control old b : ℕ) → fixedClear 64 (trimAfter control old b) ≡ true
 trim-within control old b =
-    let at : (n : ℕ) → gapless 64 (b / 128 * 128 + n % 64) ≡ true =
+    let at : (n : ℕ) → fixedClear 64 (b / 128 * 128 + n % 64) ≡ true =
     λ n. top-fits 64 (b / 128) (n % 64) (mod-lt n (lit< tt)) (lit≤ tt) in
-    by-cond (λ (n : ℕ). gapless 64 (b / 128 * 128 + n) ≡ true) (has control CAL) (λ h. at b) (λ h. at old)
+    by-cond (λ (n : ℕ). fixedClear 64 (b / 128 * 128 + n) ≡ true) (has control CAL) (λ h. at b) (λ h. at old)
 
 trim-written-within : (c : Companion) (b : ℕ) → Within c → Within (trimWritten c b)
 trim-written-within c b w =

@@ -1,15 +1,15 @@
 // SPDX-License-Identifier: Apache-2.0
 // The limits of a companion: an address that a register has, and 0 at the bits that the register map fixes.
 ghost use mathlib.Core.Path.{_≡_};
-ghost use Rattle.companion.specs.Limits.{gapless, alarmWithin, registersWithin, isWithin};
+ghost use Rattle.companion.specs.Limits.{fixedClear, alarmWithin, registersWithin, isWithin};
 use crate::Alarm;
 use crate::Companion;
 use crate::Registers;
 use crate::map::LAST;
 
 // Whether a byte has, below its bit 7, bits under the span alone.
-fn gapless(span: u8, byte: u8) -> bool
-    ensures { λ r. ⌜ r ≡ gapless span byte ⌝ }
+fn fixed_clear(span: u8, byte: u8) -> bool
+    ensures { λ r. ⌜ r ≡ fixedClear span byte ⌝ }
 {
     byte % 128 < span
 }
@@ -18,7 +18,7 @@ impl Alarm {
     fn is_within(self) -> bool
         ensures { λ r. ⌜ r ≡ alarmWithin self ⌝ }
     {
-        gapless(64, self.hours) & gapless(64, self.date) & gapless(32, self.month)
+        fixed_clear(64, self.hours) & fixed_clear(64, self.date) & fixed_clear(32, self.month)
     }
 }
 
@@ -28,7 +28,7 @@ impl Registers {
     {
         let time = self.time;
         let alarm = self.alarm;
-        gapless(64, self.trim) & time.is_within() & alarm.is_within()
+        fixed_clear(64, self.trim) & time.is_within() & alarm.is_within()
     }
 }
 

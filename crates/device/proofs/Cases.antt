@@ -9,7 +9,7 @@ use mathlib.Core.List.{List}
 use native.Mathlib.Omega.{arith}
 use lib.Dec.{eqb}
 use borrow.Author.Tests.{eqb-true, eqb-false}
-use Rattle.wire.specs.Memory.{Store, lent}
+use Rattle.wire.specs.Memory.{Cells, lent}
 use Rattle.wire.specs.Machine.{clock, out, clocked}
 use Rattle.wire.specs.declared.Phase.{Phase}
 use Rattle.wire.specs.declared.Phase.the-variants.{Idle}
@@ -37,7 +37,7 @@ pub still-at-power : (s r : State) (x : Happening) {p q : Power} → p ≡ q
 still-at-power s r x e t m = rw e (t m)
 
 -- a Clock outside a transfer leaves the state as it is
-idle-clocked : (p : Phase) (m : Store) (c : Companion) (d : Bool) → p ≡ Idle → clocked fm3130 p m c d ≡ out fm3130 p m c d
+idle-clocked : (p : Phase) (m : Cells) (c : Companion) (d : Bool) → p ≡ Idle → clocked fm3130 p m c d ≡ out fm3130 p m c d
 unfolding clocked
 idle-clocked p m c d e = rw e
 

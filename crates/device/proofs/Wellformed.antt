@@ -11,7 +11,7 @@ use native.Mathlib.Omega.{arith}
 use native.Mathlib.Nat.{mod-lt}
 use lib.ListN.{length, set, length-set}
 use Rattle.wire.specs.Clock.{Taken}
-use Rattle.wire.specs.Memory.{Store, lent, next, joined, isProtected, refusedByte, putByte}
+use Rattle.wire.specs.Memory.{Cells, lent, next, joined, isProtected, refusedByte, putByte}
 use Rattle.wire.specs.Machine.{Line, line, tick, Event, step}
 use Rattle.wire.specs.Limits.{phaseWithin}
 use Rattle.wire.specs.declared.Phase.the-variants.{Idle}
@@ -32,11 +32,11 @@ use Rattle.device.specs.declared.State.{State}
 use Rattle.device.proofs.Entry.{Limits, limits-of, of-limits}
 
 -- the memory's limits: its length, and an address inside
-record StoreOk (m : Store) : Type 0 where
+record CellsOk (m : Cells) : Type 0 where
   bytes : length (m .bytes) ≡ memorySize
   address : m .address < memorySize
 
-put-ok : (g : ℕ) (m : Store) (b : ℕ) → b < 256 → StoreOk m → StoreOk (putByte memorySize g m b .next)
+put-ok : (g : ℕ) (m : Cells) (b : ℕ) → b < 256 → CellsOk m → CellsOk (putByte memorySize g m b .next)
 unfolding putByte refusedByte
 put-ok g m b h o =
     by-test (isProtected memorySize g (m .address)) (λ e. rw e o)
@@ -49,7 +49,7 @@ aim-legal c b h = sym (aim-acknowledged c b) ∙ h
 fm3130-keeps : PartKeeps fm3130
 fm3130-keeps =
     record {
-      StoreOk = StoreOk;
+      CellsOk = CellsOk;
       DeskOk = λ c. isWithin c ≡ true;
       legal = isLegal;
       point = λ m h b o. record { bytes = o .bytes; address = mod-lt (h * 256 + b) (omega arith) };

@@ -49,7 +49,7 @@ powerKept s o =
             companion = o .state .companion;
           };
       memory = o .state .memory .bytes;
-      line = o .seen;
+      line = o .line;
     }
 
 -- A Clock in a phase: the machine's, with the state's own power.

@@ -7,7 +7,7 @@ use Prim.Native.Nat.{ℕ}
 use mathlib.Core.Bool.{Bool}
 use mathlib.Core.List.{List}
 use Rattle.wire.specs.Slave.{slaveNames}
-use Rattle.wire.specs.Memory.{Store, lent, pointed, putByte, byteAt, steppedOn}
+use Rattle.wire.specs.Memory.{Cells, lent, pointed, putByte, byteAt, steppedOn}
 use Rattle.wire.specs.Machine.{Parts, Out}
 use Rattle.wire.specs.Machine as Machine
 use Rattle.companion.specs.Part.{loadOf, loadedOf, tickOf, guardOf, pinOf}
@@ -25,7 +25,7 @@ fm3130 =
     record {
       Tick = Unit {0};
       Guard = ℕ;
-      Store = Store;
+      Cells = Cells;
       Desk = Companion;
       Pin = ℕ;
       names = slaveNames;
@@ -63,5 +63,5 @@ doneOf o =
             companion = o .state .companion;
           };
       memory = o .state .memory .bytes;
-      line = o .seen;
+      line = o .line;
     }

@@ -21,4 +21,4 @@ stores c b = takenOf (storeOf c b)
 
 -- Auxiliary: a clock that served the companion.
 abbrev pub changedOf : Half Companion → Changed
-changedOf h = record { phase = h .phase; companion = h .part; line = h .seen }
+changedOf h = record { phase = h .phase; companion = h .part; line = h .line }

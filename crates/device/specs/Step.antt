@@ -47,8 +47,8 @@ pub record Step : Type 0 where
   pub answer : ℕ
   pub memory : List ℕ
 
-abbrev pub seen : Stepped → List ℕ → Step
-seen r m = record { number = r .number; state = r .state; answer = r .answer; memory = m }
+abbrev pub stepWith : Stepped → List ℕ → Step
+stepWith r m = record { number = r .number; state = r .state; answer = r .answer; memory = m }
 
 -- "A refused single event returns its state unchanged with answer byte 1."
 abbrev pub refusal : ℕ → State → Stepped
@@ -59,10 +59,10 @@ acceptance s a = record { number = accepted; state = s; answer = a }
 
 -- "As 1": nothing is written.
 abbrev pub refused : ℕ → State → List ℕ → Step
-refused n s m = seen (refusal n s) m
+refused n s m = stepWith (refusal n s) m
 
 abbrev pub answered : Done → Step
-answered d = seen (acceptance (d .state) (answerByte (d .state) (d .line))) (d .memory)
+answered d = stepWith (acceptance (d .state) (answerByte (d .state) (d .line))) (d .memory)
 
 -- "Checked in the order of the numbers."
 unfoldable pub stepOf : State → List ℕ → ℕ → Step
@@ -75,4 +75,4 @@ stepOf s m e =
 
 -- The contract of `State::step`: what it returns and the memory it leaves are `stepOf` of what it was given.
 abbrev pub StepSettled : State → List ℕ → ℕ → Stepped → List ℕ → Type 0
-StepSettled s m e r m′ = seen r m′ ≡ stepOf s m e
+StepSettled s m e r m′ = stepWith r m′ ≡ stepOf s m e

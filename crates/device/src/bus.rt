@@ -1,5 +1,5 @@
 // SPDX-License-Identifier: Apache-2.0
-// Start, Stop and a Clock while main power is present: each phase's clock is handed only what it may touch, and what it
+// A Clock while main power is present: each phase's clock is handed only what it may touch, and what it
 // leaves is put back into the state.
 ghost use mathlib.Core.Path.{_≡_};
 ghost use Prim.Native.Nat.{_≤_};

@@ -3,8 +3,8 @@
 //
 // numbers  the numbers of the table of refusals
 // desk     the clocks of the bytes that serve the companion
-// bus      Start, Stop and a Clock, by phase
-// supply   the same under each supply, ticks, and the three events of the supplies
+// bus      a Clock while main power is present, by phase
+// supply   Start, Stop, Clock and tick under each supply, and the three events of the supplies
 // answer   the answer byte
 // limits   which states are well-formed
 // step     one event byte, and the entry with its refusals

@@ -38,7 +38,7 @@ fn accepted(state: State, answer: u8) -> Stepped
 
 impl State {
     // An event that is no Clock: it touches no memory.
-    fn other(self, event: u8) -> State
+    fn unclocked(self, event: u8) -> State
         requires { ⌜ (event ≤ 7) × (event / 2 ≡ 1 → ⊥) ⌝ }
         ensures { λ r. ⌜ Stills r (λ m. eventOf self m event) ⌝ }
     {
@@ -62,7 +62,7 @@ impl State {
             return self.clock(memory, event == 3);
         }
         Happened {
-            state: self.other(event),
+            state: self.unclocked(event),
             line: true,
         }
     }

@@ -14,7 +14,7 @@ use Rattle.isolation.specs.Merge.{Reader, between, listOf, done, turn, b
 use Rattle.isolation.specs.Party.{Party, to, foreign, isMemory, isCompanion, PartyEvent, Fair}
 use Rattle.isolation.specs.Apart.{Steady, KeptApart}
 use Rattle.isolation.proofs.Stands.{Stands, stands-next}
-use Rattle.isolation.proofs.Own.{withDesk, withStore, memory-own, companion-own, foreign-own}
+use Rattle.isolation.proofs.Own.{withDesk, withCells, memory-own, companion-own, foreign-own}
 use Rattle.isolation.proofs.Follows.{by-memory, by-companion, by-foreign}
 
 -- the phase of a device's run alone, by whether it is its turn
@@ -31,11 +31,11 @@ rests-alike : (b c : Bool) (p : Phase) → p ≡ Idle → alone b p ≡ alone c 
 rests-alike b c p h = rests b p h ∙ sym (rests c p h)
 
 module _ (P : Parts) where
-  abbrev state : Phase → P .Store → P .Desk → State P
+  abbrev state : Phase → P .Cells → P .Desk → State P
   state p m c = record { phase = p; memory = m; companion = c }
 
   simulated : {i : Party} {q : Reader} {l : List (PartyEvent P)} → Fair P i q l
-      → (p : Phase) (m n : P .Store) (c g : P .Desk) → Stands P i q p → P .guard c ≡ P .guard g
+      → (p : Phase) (m n : P .Cells) (c g : P .Desk) → Stands P i q p → P .guard c ≡ P .guard g
       → Steady P (state (alone (isCompanion i) p) n c) (listOf isCompanion l)
       → KeptApart P (state p m c) (state (alone (isMemory i) p) m g) (state (alone (isCompanion i) p) n c) l
   simulated done p m n c g st v sy =
@@ -57,10 +57,10 @@ module _ (P : Parts) where
       (simulated r (o .state .phase) (o .state .memory) n c g (stands-next P m g (to Memory) q p x w st) v sy)
   simulated (bus {i = to Companion} {q = q} {x = x} {l = l} w r) p m n c g st v sy =
       let o = lined P p n c x in
-      let a : o ≡ withStore P n o = companion-own P q p n n c x w st in
+      let a : o ≡ withCells P n o = companion-own P q p n n c x w st in
       let k = stands-next P n c (to Companion) q p x w st in
-      by-companion P (state p m c) (state Idle m g) (state p n c) l (withStore P m o) (line x)
-      (companion-own P q p m n c x w st) (withStore P n o) a refl
+      by-companion P (state p m c) (state Idle m g) (state p n c) l (withCells P m o) (line x)
+      (companion-own P q p m n c x w st) (withCells P n o) a refl
       (simulated r (o .state .phase) m n (o .state .companion) g k (sy .0 ∙ v)
       (subst (λ (z : Out P). Steady P (z .state) (listOf isCompanion l)) a (sy .1)))
   simulated (bus {i = foreign} {q = q} {x = x} {l = l} w r) p m n c g st v sy =

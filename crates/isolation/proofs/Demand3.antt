@@ -10,7 +10,7 @@ use mathlib.Core.List.{List, [], _∷_, map}
 use native.Mathlib.Omega.{arith}
 use Rattle.wire.specs.Machine.{start, stop, clock, line, tick, Answer, answerOf, step}
 use Rattle.wire.specs.Machine as Machine
-use Rattle.wire.specs.Memory.{Store, lent}
+use Rattle.wire.specs.Memory.{Cells, lent}
 use Rattle.companion.specs.declared.Companion.{Companion}
 use Rattle.device.specs.Chip.{fm3130, machineOf, Done, doneOf}
 use Rattle.device.specs.Event.{eventOf, eventOn, happening}
@@ -40,7 +40,7 @@ heldOf u =
       memory = u .memory .bytes;
     }
 
-abbrev storeIn : Held → Store
+abbrev storeIn : Held → Cells
 storeIn h = lent (h .memory) (h .state .address)
 
 abbrev deskIn : Held → Companion
@@ -48,7 +48,7 @@ deskIn h = h .state .companion
 
 -- an answer as a byte, a line as a bit
 abbrev byteFor : Answer fm3130 → ℕ
-byteFor a = 2 * a .pin + cond (a .seen) 1 0
+byteFor a = 2 * a .pin + cond (a .line) 1 0
 
 abbrev bitFor : Bool → ℕ
 bitFor d = cond d 1 0
@@ -89,12 +89,12 @@ line-bit n true = omega arith
 line-bit n false = omega arith
 
 lines-are : (u : Bus) (es : Events)
-    → linesOf (answersTo (heldOf u) (bytesOf es)) ≡ map bitFor (answersOf fm3130 (λ a. a .seen) u es)
+    → linesOf (answersTo (heldOf u) (bytesOf es)) ≡ map bitFor (answersOf fm3130 (λ a. a .line) u es)
 unfolding runOf
 lines-are u [] = refl
 lines-are u (e ∷ es) =
     let o = step fm3130 u e in
-    let this = ap (λ (n : ℕ). n % 2) (answer-is u e) ∙ line-bit (answerOf fm3130 o .pin) (o .seen) in
+    let this = ap (λ (n : ℕ). n % 2) (answer-is u e) ∙ line-bit (answerOf fm3130 o .pin) (o .line) in
     let rest = ap (λ (h : Held). linesOf (answersTo h (bytesOf es))) (after-is u e) ∙ lines-are (o .state) es in
     λ i. this i ∷ rest i
 
@@ -123,7 +123,7 @@ module _ (u : Bus) (xs ys : Events) (l : List (PartyEvent fm3130)) (r : Isolated
   all = bytesOf (eventsOf l)
 
   -- any part of the memory, any part of the companion
-  store-alike : {Z : Type 0} (part : Store → Z)
+  store-alike : {Z : Type 0} (part : Cells → Z)
       → part (storeIn (afterEvents (heldOf u) all)) ≡ part (storeIn (afterEvents (heldOf u) (bytesOf xs)))
   store-alike part =
       ap (λ (h : Held). part (storeIn h)) (run-is u (eventsOf l))
@@ -139,7 +139,7 @@ module _ (u : Bus) (xs ys : Events) (l : List (PartyEvent fm3130)) (r : Isolated
   lines-alike =
       sym (picked-map (λ n. n % 2) isMemory l (answersTo (heldOf u) all))
       ∙ (ap (picked isMemory l) (lines-are u (eventsOf l))
-      ∙ (picked-map bitFor isMemory l (answersOf fm3130 (λ a. a .seen) u (eventsOf l))
+      ∙ (picked-map bitFor isMemory l (answersOf fm3130 (λ a. a .line) u (eventsOf l))
       ∙ (ap (map bitFor) (r .memory-lines) ∙ sym (lines-are u xs))))
 
   answers-alike : picked isCompanion l (answersTo (heldOf u) all) ≡ answersTo (heldOf u) (bytesOf ys)

@@ -43,37 +43,37 @@ module _ (P : Parts) where
             answered = rw it (ap (shown l) so ∙ h .answered);
           }
 
-  abbrev pub memoryOf : State P → P .Store
+  abbrev pub memoryOf : State P → P .Cells
   memoryOf s = s .memory
 
   abbrev pub companionOf : State P → P .Desk
   companionOf s = s .companion
 
-  abbrev pub seen : Answer P → Bool
-  seen a = a .seen
+  abbrev pub lineOf : Answer P → Bool
+  lineOf a = a .line
 
   abbrev pub whole : Answer P → Answer P
   whole a = a
 
   abbrev PullsNothing : State P → List (PartyEvent P) → Type 0
-  PullsNothing s l = picked isForeign l (answersOf P seen s (eventsOf l)) ≡ masters (listOf isForeign l)
+  PullsNothing s l = picked isForeign l (answersOf P lineOf s (eventsOf l)) ≡ masters (listOf isForeign l)
 
   module _ (s : State P) (l : List (PartyEvent P)) (o : Out P) where
-    quiet-own : (x : Line) → step P s (line x) ≡ o → o .seen ≡ mastersLine x
+    quiet-own : (x : Line) → step P s (line x) ≡ o → o .line ≡ mastersLine x
         → PullsNothing (o .state) l → PullsNothing s (by foreign (line x) ∷ l)
     quiet-own x so ox h =
-        ap (λ (z : Out P). z .seen ∷ shown isForeign memoryOf seen l z) so ∙ (λ j. ox j ∷ h j)
+        ap (λ (z : Out P). z .line ∷ shown isForeign memoryOf lineOf l z) so ∙ (λ j. ox j ∷ h j)
 
     quiet-other : (i : Party) (e : BusEvent P) → step P s e ≡ o → isForeign i ≡ false
         → PullsNothing (o .state) l → PullsNothing s (by i e ∷ l)
-    quiet-other i e so it h = rw it (ap (shown isForeign memoryOf seen l) so ∙ h)
+    quiet-other i e so it h = rw it (ap (shown isForeign memoryOf lineOf l) so ∙ h)
 
   module _ (s t u : State P) (l : List (PartyEvent P)) (o : Out P) where
-    pub by-memory : (e : BusEvent P) → step P s e ≡ o → (w : Out P) → step P t e ≡ w → o .seen ≡ w .seen
+    pub by-memory : (e : BusEvent P) → step P s e ≡ o → (w : Out P) → step P t e ≡ w → o .line ≡ w .line
         → KeptApart P (o .state) (w .state) u l → KeptApart P s t u (by (to Memory) e ∷ l)
     by-memory e so w tw ow h =
         record {
-          memory = follows-own isMemory memoryOf seen s t (to Memory) e l o so refl w tw ow (h .memory);
+          memory = follows-own isMemory memoryOf lineOf s t (to Memory) e l o so refl w tw ow (h .memory);
           companion = follows-other isCompanion companionOf whole s u (to Memory) e l o so refl (h .companion);
           quiet = quiet-other s l o (to Memory) e so refl (h .quiet);
         }
@@ -82,16 +82,16 @@ module _ (P : Parts) where
         → KeptApart P (o .state) t (w .state) l → KeptApart P s t u (by (to Companion) e ∷ l)
     by-companion e so w uw ow h =
         record {
-          memory = follows-other isMemory memoryOf seen s t (to Companion) e l o so refl (h .memory);
+          memory = follows-other isMemory memoryOf lineOf s t (to Companion) e l o so refl (h .memory);
           companion = follows-own isCompanion companionOf whole s u (to Companion) e l o so refl w uw ow (h .companion);
           quiet = quiet-other s l o (to Companion) e so refl (h .quiet);
         }
 
-    pub by-foreign : (x : Line) → step P s (line x) ≡ o → o .seen ≡ mastersLine x
+    pub by-foreign : (x : Line) → step P s (line x) ≡ o → o .line ≡ mastersLine x
         → KeptApart P (o .state) t u l → KeptApart P s t u (by foreign (line x) ∷ l)
     by-foreign x so ox h =
         record {
-          memory = follows-other isMemory memoryOf seen s t foreign (line x) l o so refl (h .memory);
+          memory = follows-other isMemory memoryOf lineOf s t foreign (line x) l o so refl (h .memory);
           companion = follows-other isCompanion companionOf whole s u foreign (line x) l o so refl (h .companion);
           quiet = quiet-own s l o x so ox (h .quiet);
         }

@@ -21,13 +21,13 @@ use Rattle.isolation.proofs.Stands.{Byte, Serves, Stands}
 module _ (P : Parts) where
   -- an outcome with another device in the place of the one that was not handed over
   abbrev pub withDesk : P .Desk → Out P → Out P
-  withDesk c o = out P (o .state .phase) (o .state .memory) c (o .seen)
+  withDesk c o = out P (o .state .phase) (o .state .memory) c (o .line)
 
-  abbrev pub withStore : P .Store → Out P → Out P
-  withStore m o = out P (o .state .phase) m (o .state .companion) (o .seen)
+  abbrev pub withCells : P .Cells → Out P → Out P
+  withCells m o = out P (o .state .phase) m (o .state .companion) (o .line)
 
   -- the memory's own events see nothing of the companion but its protection
-  memory-clock : (p : Phase) (m : P .Store) (c g : P .Desk) (d : Bool) → P .guard c ≡ P .guard g → Serves P Memory p
+  memory-clock : (p : Phase) (m : P .Cells) (c g : P .Desk) (d : Bool) → P .guard c ≡ P .guard g → Serves P Memory p
       → clocked P p m c d ≡ withDesk c (clocked P p m g d)
   unfolding clocked
   memory-clock Idle m c g d v h = refl
@@ -41,7 +41,7 @@ module _ (P : Parts) where
   memory-clock (Read Memory k b) m c g d v h = refl
   memory-clock (Read Companion k b) m c g d v h = absurd h
 
-  pub memory-own : (q : Reader) (p : Phase) (m : P .Store) (c g : P .Desk) (x : Line) → P .guard c ≡ P .guard g
+  pub memory-own : (q : Reader) (p : Phase) (m : P .Cells) (c g : P .Desk) (x : Line) → P .guard c ≡ P .guard g
       → MayStand (Byte P (to Memory)) q x → Stands P (to Memory) q p → lined P p m c x ≡ withDesk c (lined P p m g x)
   unfolding lined clocked
   memory-own q p m c g start v w s = refl
@@ -51,8 +51,8 @@ module _ (P : Parts) where
   memory-own moving p m c g (clock d) v w s = memory-clock p m c g d v s
 
   -- the companion's own events see nothing of the memory
-  companion-clock : (p : Phase) (m n : P .Store) (c : P .Desk) (d : Bool) → Serves P Companion p
-      → clocked P p m c d ≡ withStore m (clocked P p n c d)
+  companion-clock : (p : Phase) (m n : P .Cells) (c : P .Desk) (d : Bool) → Serves P Companion p
+      → clocked P p m c d ≡ withCells m (clocked P p n c d)
   unfolding clocked
   companion-clock Idle m n c d h = refl
   companion-clock (Slave k b) m n c d h = refl
@@ -64,9 +64,9 @@ module _ (P : Parts) where
   companion-clock (Read Memory k b) m n c d h = absurd h
   companion-clock (Read Companion k b) m n c d h = refl
 
-  pub companion-own : (q : Reader) (p : Phase) (m n : P .Store) (c : P .Desk) (x : Line)
+  pub companion-own : (q : Reader) (p : Phase) (m n : P .Cells) (c : P .Desk) (x : Line)
       → MayStand (Byte P (to Companion)) q x → Stands P (to Companion) q p
-      → lined P p m c x ≡ withStore m (lined P p n c x)
+      → lined P p m c x ≡ withCells m (lined P p n c x)
   unfolding lined clocked
   companion-own q p m n c start w s = refl
   companion-own q p m n c stop w s = refl
@@ -75,7 +75,7 @@ module _ (P : Parts) where
   companion-own moving p m n c (clock d) w s = companion-clock p m n c d s
 
   -- others' events move the phase alone, and the line is the master's
-  module _ (m : P .Store) (c : P .Desk) where
+  module _ (m : P .Cells) (c : P .Desk) where
     foreign-calls : (l : Place) (k b : ℕ) (d : Bool) → Calls (Byte P foreign) l b d
         → neither P m c (receivedAt l (slaveByte (P .names)) tt k b d)
         ≡ out P (receivedAt l (slaveByte (P .names)) tt k b d .phase) m c d

@@ -113,7 +113,7 @@ module _ (P : Parts) where
     slave-serves last k b d h = absurd h
     slave-serves ack k b d h = opened-serves (P .names b) h
 
-    clock-serves : (p : Phase) (m : P .Store) (c : P .Desk) (d : Bool) → Serves x p
+    clock-serves : (p : Phase) (m : P .Cells) (c : P .Desk) (d : Bool) → Serves x p
         → Serves x (clocked P p m c d .state .phase)
     unfolding clocked
     clock-serves Idle m c d h = tt
@@ -133,7 +133,7 @@ module _ (P : Parts) where
     clock-serves (Read Companion k b) m c d h =
         sent-at (Serves x) tt (companionRead (P .load) (P .loaded)) (λ k b. h) (placeAt k) c k b d
 
-  module _ (m : P .Store) (c : P .Desk) where
+  module _ (m : P .Cells) (c : P .Desk) where
     clock-moves : (i : Party) (p : Phase) (d : Bool) → Moves i p → Moves i (clocked P p m c d .state .phase)
     unfolding clocked
     clock-moves (to x) p d h = clock-serves x p m c d h

@@ -40,7 +40,7 @@ module _ (P : Parts) (only : OnlyWrites P) where
   abbrev Keeps : P .Desk → P .Desk → Type 0
   Keeps c c′ = P .guard c′ ≡ P .guard c
 
-  clock-keeps : (p : Phase) (m : P .Store) (c : P .Desk) (d : Bool)
+  clock-keeps : (p : Phase) (m : P .Cells) (c : P .Desk) (d : Bool)
       → WhereWritten p (Keeps c (clocked P p m c d .state .companion))
       → Keeps c (clocked P p m c d .state .companion)
   unfolding clocked
@@ -56,7 +56,7 @@ module _ (P : Parts) (only : OnlyWrites P) where
   clock-keeps (Read Companion k b) m c d h =
       sent-part (Keeps c) c refl (companionRead (P .load) (P .loaded)) (only .read-keeps c) (placeAt k) k b d
 
-  event-keeps : (p : Phase) (m : P .Store) (c : P .Desk) (e : BusEvent P)
+  event-keeps : (p : Phase) (m : P .Cells) (c : P .Desk) (e : BusEvent P)
       → IfWritten p e (Keeps c (stepped P p m c e .state .companion)) → Keeps c (stepped P p m c e .state .companion)
   unfolding lined
   event-keeps p m c (line start) h = refl

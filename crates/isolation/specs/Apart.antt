@@ -44,6 +44,6 @@ module _ (P : Parts) where
   -- The memory, its address and the lines of memory events follow the memory's list; the companion and the whole
   -- answers to companion events and ticks the companion's; in all other transactions the device pulls no line low.
   pub record KeptApart (s t u : State P) (l : List (PartyEvent P)) : Type 0 where
-    pub memory : Follows isMemory (λ s. s .memory) (λ a. a .seen) s t l
+    pub memory : Follows isMemory (λ s. s .memory) (λ a. a .line) s t l
     pub companion : Follows isCompanion (λ s. s .companion) (λ a. a) s u l
-    pub quiet : picked isForeign l (answersOf (λ a. a .seen) s (eventsOf l)) ≡ masters (listOf isForeign l)
+    pub quiet : picked isForeign l (answersOf (λ a. a .line) s (eventsOf l)) ≡ masters (listOf isForeign l)

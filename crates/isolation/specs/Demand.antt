@@ -67,6 +67,6 @@ module _ (P : Parts) where
   -- address, and the answers to companion events and ticks, line and pin, as if the second had.
   pub record Isolated (s : State P) (xs ys : List (BusEvent P)) (l : List (PartyEvent P)) : Type 0 where
     pub memory : run P s (eventsOf l) .memory ≡ run P s xs .memory
-    pub memory-lines : picked isMemory l (answersOf P (λ a. a .seen) s (eventsOf l)) ≡ answersOf P (λ a. a .seen) s xs
+    pub memory-lines : picked isMemory l (answersOf P (λ a. a .line) s (eventsOf l)) ≡ answersOf P (λ a. a .line) s xs
     pub companion : run P s (eventsOf l) .companion ≡ run P s ys .companion
     pub companion-answers : picked isCompanion l (answersOf P (λ a. a) s (eventsOf l)) ≡ answersOf P (λ a. a) s ys

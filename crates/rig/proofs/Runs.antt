@@ -23,7 +23,7 @@ use Rattle.device.specs.declared.State.{State}
 use Rattle.device.proofs.Wellformed.{event-ok}
 use Rattle.rig.specs.Image.{imageOf, decodeOf}
 use Rattle.rig.specs.Run.{Ended, following, answerTo, runOf, RanThrough, allKnown}
-use Rattle.rig.specs.Run.{refused, written, seen, outcomeOf}
+use Rattle.rig.specs.Run.{refused, written, outcomeWith, outcomeOf}
 use Rattle.rig.specs.declared.Decoded.the-variants.{Good, Bad}
 
 -- the test of the events: what was seen of them, and the rest
@@ -118,6 +118,6 @@ module _ (i m es a : List ℕ) where
       -- what was done is the whole outcome
       pub outcome-done : (t : State) (i′ m′ a′ : List ℕ) → allKnown es ≡ true → length es ≤ length a
           → RanThrough s m es a t m′ a′ → i′ ≡ imageOf t
-          → seen (record { number = accepted; count = length es }) i′ m′ a′ ≡ outcomeOf i m es a
+          → outcomeWith (record { number = accepted; count = length es }) i′ m′ a′ ≡ outcomeOf i m es a
       outcome-done t i′ m′ a′ k l r e =
           rw (e, r .state, r .memory, r .answers) (sym (outcome-written k l))

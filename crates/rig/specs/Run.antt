@@ -93,9 +93,9 @@ unfoldable pub outcomeOf : List ℕ → List ℕ → List ℕ → List ℕ → O
 outcomeOf i m es a = cond (eqb (length m) memorySize) (onDecoded (decodeOf i) i m es a) (refused wrongMemory i m a)
 
 -- Auxiliary: what a call returned and left, as an outcome.
-abbrev pub seen : Ran → List ℕ → List ℕ → List ℕ → Outcome
-seen r i m a = record { number = r .number; count = r .count; image = i; memory = m; answers = a }
+abbrev pub outcomeWith : Ran → List ℕ → List ℕ → List ℕ → Outcome
+outcomeWith r i m a = record { number = r .number; count = r .count; image = i; memory = m; answers = a }
 
 -- The contract of `fm3130_run`: what it returns and leaves in the buffers is `outcomeOf` of what it was given.
 abbrev pub RunSettled : List ℕ → List ℕ → List ℕ → List ℕ → Ran → List ℕ → List ℕ → List ℕ → Type 0
-RunSettled i m es a r i′ m′ a′ = seen r i′ m′ a′ ≡ outcomeOf i m es a
+RunSettled i m es a r i′ m′ a′ = outcomeWith r i′ m′ a′ ≡ outcomeOf i m es a

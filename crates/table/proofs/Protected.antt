@@ -20,7 +20,7 @@ use Rattle.wire.specs.declared.Side.the-variants.{Memory, Companion}
 use Rattle.wire.specs.declared.Phase.{Phase}
 use Rattle.wire.specs.declared.Phase.the-variants.{Idle, Slave, AddressHigh, AddressLow, Pointer, Write, Read}
 use Rattle.wire.proofs.Clock.{received-inside, received-last, received-ack}
-use Rattle.wire.proofs.Store.{low-bytes, fetch-bytes}
+use Rattle.wire.proofs.Cells.{low-bytes, fetch-bytes}
 use Rattle.wire.proofs.Tests.{by-test}
 use Rattle.companion.specs.Part.{guardOf}
 use Rattle.device.specs.Chip.{memorySize, fm3130}

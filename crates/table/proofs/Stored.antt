@@ -13,7 +13,7 @@ use lib.Seq.{getD-set-same}
 use Rattle.wire.specs.Bits.{pushed}
 use Rattle.wire.specs.Clock.{Half, half, kept, received}
 use Rattle.wire.specs.Kinds.{memoryByte}
-use Rattle.wire.specs.Memory.{Store, lent, next, isProtected, refusedByte, putByte}
+use Rattle.wire.specs.Memory.{Cells, lent, next, isProtected, refusedByte, putByte}
 use Rattle.wire.specs.Machine.{beside, clocked}
 use Rattle.wire.specs.declared.Side.the-variants.{Memory}
 use Rattle.wire.specs.declared.Phase.{Phase}
@@ -75,7 +75,7 @@ late {b} {w} (power {es = es} r) m s p a g h =
     onward (Same b w p a g m) s m es 7 (still s m) (power-event s m (h .on)) (late r m s p a g h)
 
 -- a clock that served the memory, from the memory's half
-abbrev halfDone : State → Half Store → Done
+abbrev halfDone : State → Half Cells → Done
 halfDone s h = doneOf (beside fm3130 (s .companion) h)
 
 clocked-at : (s : State) (m : List ℕ) (d : Bool) (k b a g : ℕ) → Held s (Write Memory k b) a g

@@ -20,12 +20,12 @@ use Rattle.wire.proofs.Limits.{Any, Within, Kept, ReceiverKeeps, receiv
 -- What is asked of a part: that its memory and its companion keep their limits, and that only legal companion addresses are
 -- acknowledged.
 pub record PartKeeps (P : Parts) : Type 1 where
-  pub StoreOk : P .Store → Type 0
+  pub CellsOk : P .Cells → Type 0
   pub DeskOk : P .Desk → Type 0
   pub legal : ℕ → Bool
-  pub point : (m : P .Store) (h b : ℕ) → StoreOk m → StoreOk (P .point m h b)
-  pub put : (g : P .Guard) (m : P .Store) (b : ℕ) → b < 256 → StoreOk m → StoreOk (P .put g m b .next)
-  pub step-on : (m : P .Store) → StoreOk m → StoreOk (P .step-on m)
+  pub point : (m : P .Cells) (h b : ℕ) → CellsOk m → CellsOk (P .point m h b)
+  pub put : (g : P .Guard) (m : P .Cells) (b : ℕ) → b < 256 → CellsOk m → CellsOk (P .put g m b .next)
+  pub step-on : (m : P .Cells) → CellsOk m → CellsOk (P .step-on m)
   pub aim : (c : P .Desk) (b : ℕ) → b < 256 → DeskOk c → DeskOk (P .aim c b .next)
   pub aim-legal : (c : P .Desk) (b : ℕ) → P .aim c b .good ≡ true → legal b ≡ true
   pub store : (c : P .Desk) (b : ℕ) → b < 256 → DeskOk c → DeskOk (P .store c b .next)
@@ -35,11 +35,11 @@ pub record PartKeeps (P : Parts) : Type 1 where
 module _ (P : Parts) (K : PartKeeps P) where
   pub record StateOk (s : State P) : Type 0 where
     pub phase : Within (P .names) (K .legal) (s .phase)
-    pub memory : K .StoreOk (s .memory)
+    pub memory : K .CellsOk (s .memory)
     pub companion : K .DeskOk (s .companion)
 
-  module _ (m : P .Store) (c : P .Desk) (mo : K .StoreOk m) (co : K .DeskOk c) where
-    beside-ok : {h : Half (P .Store)} → Kept (P .names) (K .legal) (K .StoreOk) h → StateOk (beside P c h .state)
+  module _ (m : P .Cells) (c : P .Desk) (mo : K .CellsOk m) (co : K .DeskOk c) where
+    beside-ok : {h : Half (P .Cells)} → Kept (P .names) (K .legal) (K .CellsOk) h → StateOk (beside P c h .state)
     beside-ok r = record { phase = r .phase; memory = r .part; companion = co }
 
     beyond-ok : {h : Half (P .Desk)} → Kept (P .names) (K .legal) (K .DeskOk) h → StateOk (beyond P m h .state)
@@ -53,9 +53,9 @@ module _ (P : Parts) (K : PartKeeps P) where
         → (k b : ℕ) (d : Bool) → bitsFit k b ≡ true → StateOk (neither P m c (received R tt k b d) .state)
     bare R r k b d w = neither-ok (received-keeps (P .names) (K .legal) Any R r tt k b d w tt)
 
-    memory-in : (R : Receiver (P .Store)) → ReceiverKeeps (P .names) (K .legal) (K .StoreOk) R
+    memory-in : (R : Receiver (P .Cells)) → ReceiverKeeps (P .names) (K .legal) (K .CellsOk) R
         → (k b : ℕ) (d : Bool) → bitsFit k b ≡ true → StateOk (beside P c (received R m k b d) .state)
-    memory-in R r k b d w = beside-ok (received-keeps (P .names) (K .legal) (K .StoreOk) R r m k b d w mo)
+    memory-in R r k b d w = beside-ok (received-keeps (P .names) (K .legal) (K .CellsOk) R r m k b d w mo)
 
     companion-in : (R : Receiver (P .Desk)) → ReceiverKeeps (P .names) (K .legal) (K .DeskOk) R
         → (k b : ℕ) (d : Bool) → bitsFit k b ≡ true → StateOk (beyond P m (received R c k b d) .state)
@@ -70,20 +70,20 @@ module _ (P : Parts) (K : PartKeeps P) where
     clocked-keeps (AddressHigh k b) d w = bare highByte (high-keeps (P .names) (K .legal)) k b d w
     clocked-keeps (AddressLow h k b) d w =
         memory-in (lowByte (P .point) h)
-        (low-keeps (P .names) (K .legal) (K .StoreOk) (P .point) h (λ n x. K .point n h x)) k b d w
+        (low-keeps (P .names) (K .legal) (K .CellsOk) (P .point) h (λ n x. K .point n h x)) k b d w
     clocked-keeps (Pointer k b) d w =
         companion-in (pointerByte (P .aim))
         (pointer-keeps (P .names) (K .legal) (K .DeskOk) (P .aim) (K .aim) (K .aim-legal)) k b d
         (and-split (bitsFit k b) (cond (eqb k 8) (K .legal b) true) w .0)
     clocked-keeps (Write Memory k b) d w =
         memory-in (memoryByte (P .put (P .guard c)))
-        (data-keeps (P .names) (K .legal) (K .StoreOk) Memory (P .put (P .guard c)) (K .put (P .guard c))) k b d w
+        (data-keeps (P .names) (K .legal) (K .CellsOk) Memory (P .put (P .guard c)) (K .put (P .guard c))) k b d w
     clocked-keeps (Write Companion k b) d w =
         companion-in (companionByte (P .store))
         (data-keeps (P .names) (K .legal) (K .DeskOk) Companion (P .store) (K .store)) k b d w
     clocked-keeps (Read Memory k b) d w =
-        beside-ok (sent-keeps (P .names) (K .legal) (K .StoreOk) (memoryRead (P .fetch) (P .step-on))
-        (read-keeps (P .names) (K .legal) (K .StoreOk) Memory (P .fetch) (λ n x. P .step-on n) (λ n x. K .step-on n)) m k b d mo)
+        beside-ok (sent-keeps (P .names) (K .legal) (K .CellsOk) (memoryRead (P .fetch) (P .step-on))
+        (read-keeps (P .names) (K .legal) (K .CellsOk) Memory (P .fetch) (λ n x. P .step-on n) (λ n x. K .step-on n)) m k b d mo)
     clocked-keeps (Read Companion k b) d w =
         beyond-ok (sent-keeps (P .names) (K .legal) (K .DeskOk) (companionRead (P .load) (P .loaded))
         (read-keeps (P .names) (K .legal) (K .DeskOk) Companion (P .load) (P .loaded) (K .loaded)) c k b d co)

@@ -2,6 +2,6 @@
 pub mod Match
 pub mod Tests
 pub mod Clock
-pub mod Store
+pub mod Cells
 pub mod Limits
 pub mod Keeps

@@ -10,14 +10,14 @@ use Rattle.wire.specs.Bits.{pushed, sentBit, Place, first, within, last,
 use Rattle.wire.specs.declared.Phase.{Phase}
 use Rattle.wire.specs.declared.Phase.the-variants.{Idle}
 
--- What a clock leaves; `seen` is the line, true when high.
+-- What a clock leaves; `line` is true when the wire is high.
 pub record Half (A : Type 0) : Type 0 where
   pub phase : Phase
   pub part : A
-  pub seen : Bool
+  pub line : Bool
 
 abbrev pub half : {A : Type 0} → Phase → A → Bool → Half A
-half p a d = record { phase = p; part = a; seen = d }
+half p a d = record { phase = p; part = a; line = d }
 
 -- What taking a byte leaves, and whether it is acknowledged. A refused byte, too, leaves a next state.
 pub record Taken (A : Type 0) : Type 0 where

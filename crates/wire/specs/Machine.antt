@@ -17,16 +17,16 @@ use Rattle.wire.specs.declared.Phase.the-variants.{Idle, Slave, AddressH
 pub record Parts : Type 1 where
   pub Tick : Type 0
   pub Guard : Type 0
-  pub Store : Type 0
+  pub Cells : Type 0
   pub Desk : Type 0
   pub Pin : Type 0
   -- whom a slave byte names
   pub names : ℕ → Named
-  -- the memory, `Store`: take an address of two bytes; put a byte, under a protection; the byte at the address; step on
-  pub point : Store → ℕ → ℕ → Store
-  pub put : Guard → Store → ℕ → Taken Store
-  pub fetch : Store → ℕ
-  pub step-on : Store → Store
+  -- the memory, `Cells`: take an address of two bytes; put a byte, under a protection; the byte at the address; step on
+  pub point : Cells → ℕ → ℕ → Cells
+  pub put : Guard → Cells → ℕ → Taken Cells
+  pub fetch : Cells → ℕ
+  pub step-on : Cells → Cells
   -- the companion, `Desk`: take an address; store a byte; the byte at the address; what a whole byte read does
   pub aim : Desk → ℕ → Taken Desk
   pub store : Desk → ℕ → Taken Desk
@@ -55,29 +55,29 @@ pub data Event (Tick : Type 0) : Type 0 where
 module _ (P : Parts) where
   pub record State : Type 0 where
     pub phase : Phase
-    pub memory : P .Store
+    pub memory : P .Cells
     pub companion : P .Desk
 
-  -- `seen` is the line: true when high.
+  -- `line` is true when the wire is high.
   pub record Out : Type 0 where
     pub state : State
-    pub seen : Bool
+    pub line : Bool
 
-  abbrev pub out : Phase → P .Store → P .Desk → Bool → Out
-  out p m c d = record { state = record { phase = p; memory = m; companion = c }; seen = d }
+  abbrev pub out : Phase → P .Cells → P .Desk → Bool → Out
+  out p m c d = record { state = record { phase = p; memory = m; companion = c }; line = d }
 
   -- Auxiliary: what a clock was handed goes back beside what it was not.
-  abbrev pub neither : P .Store → P .Desk → Half (Unit {0}) → Out
-  neither m c h = out (h .phase) m c (h .seen)
+  abbrev pub neither : P .Cells → P .Desk → Half (Unit {0}) → Out
+  neither m c h = out (h .phase) m c (h .line)
 
-  abbrev pub beside : P .Desk → Half (P .Store) → Out
-  beside c h = out (h .phase) (h .part) c (h .seen)
+  abbrev pub beside : P .Desk → Half (P .Cells) → Out
+  beside c h = out (h .phase) (h .part) c (h .line)
 
-  abbrev pub beyond : P .Store → Half (P .Desk) → Out
-  beyond m h = out (h .phase) m (h .part) (h .seen)
+  abbrev pub beyond : P .Cells → Half (P .Desk) → Out
+  beyond m h = out (h .phase) m (h .part) (h .line)
 
   -- A Clock, by phase. "A Clock outside a transfer, or after it has ended, changes nothing and its line is the master's."
-  unfoldable pub clocked : Phase → P .Store → P .Desk → Bool → Out
+  unfoldable pub clocked : Phase → P .Cells → P .Desk → Bool → Out
   clocked Idle m c d = out Idle m c d
   clocked (Slave k b) m c d = neither m c (received (slaveByte (P .names)) tt k b d)
   clocked (AddressHigh k b) m c d = neither m c (received highByte tt k b d)
@@ -89,12 +89,12 @@ module _ (P : Parts) where
   clocked (Read Companion k b) m c d = beyond m (sent (companionRead (P .load) (P .loaded)) c k b d)
 
   -- "Start at any moment begins a slave byte; Stop at any moment ends the transfer. Either drops a part byte."
-  unfoldable pub lined : Phase → P .Store → P .Desk → Line → Out
+  unfoldable pub lined : Phase → P .Cells → P .Desk → Line → Out
   lined p m c start = out (Slave 0 0) m c true
   lined p m c stop = out Idle m c true
   lined p m c (clock d) = clocked p m c d
 
-  abbrev pub stepped : Phase → P .Store → P .Desk → Event (P .Tick) → Out
+  abbrev pub stepped : Phase → P .Cells → P .Desk → Event (P .Tick) → Out
   stepped p m c (line x) = lined p m c x
   stepped p m c (tick t) = out p m (P .ticked t c) true
 
@@ -103,8 +103,8 @@ module _ (P : Parts) where
 
   -- What is seen of an event: the line, and the pin after it.
   pub record Answer : Type 0 where
-    pub seen : Bool
+    pub line : Bool
     pub pin : P .Pin
 
   abbrev pub answerOf : Out → Answer
-  answerOf o = record { seen = o .seen; pin = P .pin (o .state .companion) }
+  answerOf o = record { line = o .line; pin = P .pin (o .state .companion) }

@@ -1,5 +1,5 @@
 -- SPDX-License-Identifier: Apache-2.0
--- The memory, over its size (01, Transfers). `Store` is the lent bytes with the memory address.
+-- The memory, over its size (01, Transfers). `Cells` is the lent bytes with the memory address.
 --   joined, next       addresses           protectedBelow, isProtected   the write protection
 --   pointed, putByte, byteAt, steppedOn    what a transfer does to a memory
 -- Assumes nothing.
@@ -10,12 +10,12 @@ use lib.Dec.{eqb, ltb}
 use lib.ListN.{getD, set}
 use Rattle.wire.specs.Clock.{Taken}
 
-pub record Store : Type 0 where
+pub record Cells : Type 0 where
   pub bytes : List ℕ
   pub address : ℕ
 
 -- Auxiliary: the lent bytes, at an address.
-abbrev pub lent : List ℕ → ℕ → Store
+abbrev pub lent : List ℕ → ℕ → Cells
 lent m a = record { bytes = m; address = a }
 
 -- "Two address bytes .. the upper three bits ignored (ruling)": in 8,192 bytes those above the size.
@@ -35,23 +35,23 @@ abbrev pub isProtected : ℕ → ℕ → ℕ → Bool
 isProtected size wp a = ltb a (protectedBelow size wp)
 
 -- The address is taken.
-abbrev pub pointed : ℕ → Store → ℕ → ℕ → Store
+abbrev pub pointed : ℕ → Cells → ℕ → ℕ → Cells
 pointed size m high low = lent (m .bytes) (joined size high low)
 
 -- "A data byte to a protected address is not acknowledged, changes nothing, the address stays (ruling)."
-unfoldable pub refusedByte : ℕ → Store → Taken Store
+unfoldable pub refusedByte : ℕ → Cells → Taken Cells
 refusedByte size m = record { next = m; good = false }
 
 -- "A data byte is stored at its eighth clock, and then the address steps on."
-unfoldable pub putByte : ℕ → ℕ → Store → ℕ → Taken Store
+unfoldable pub putByte : ℕ → ℕ → Cells → ℕ → Taken Cells
 putByte size wp m b =
     cond (isProtected size wp (m .address)) (refusedByte size m)
     (record { next = lent (set (m .bytes) (m .address) b) (next size (m .address)); good = true })
 
 -- "A read uses the current address."
-abbrev pub byteAt : Store → ℕ
+abbrev pub byteAt : Cells → ℕ
 byteAt m = getD (m .bytes) (m .address) 0
 
 -- "The address steps on at the eighth."
-abbrev pub steppedOn : ℕ → Store → Store
+abbrev pub steppedOn : ℕ → Cells → Cells
 steppedOn size m = lent (m .bytes) (next size (m .address))

@@ -5,25 +5,25 @@ use Prim.Native.Nat.{ℕ}
 use mathlib.Core.Path.{_≡_}
 use mathlib.Core.List.{List}
 use Rattle.wire.specs.Clock.{Half, Taken}
-use Rattle.wire.specs.Memory.{Store}
+use Rattle.wire.specs.Memory.{Cells}
 use Rattle.wire.specs.declared.Turned.{Turned}
 use Rattle.wire.specs.declared.Moved.{Moved}
 use Rattle.wire.specs.declared.Put.{Put}
 
 -- Auxiliary: a clock that touched no device.
 abbrev pub turnedOf : Half (Unit {0}) → Turned
-turnedOf h = record { phase = h .phase; line = h .seen }
+turnedOf h = record { phase = h .phase; line = h .line }
 
 -- Auxiliary: a clock that served the memory; the bytes stay with their lender.
-abbrev pub movedOf : Half Store → Moved
-movedOf h = record { phase = h .phase; address = h .part .address; line = h .seen }
+abbrev pub movedOf : Half Cells → Moved
+movedOf h = record { phase = h .phase; address = h .part .address; line = h .line }
 
 -- A clock that may change the bytes: what it returns, and the bytes as it leaves them.
-pub record MovedWith (r : Moved) (m : List ℕ) (h : Half Store) : Type 0 where
+pub record MovedWith (r : Moved) (m : List ℕ) (h : Half Cells) : Type 0 where
   pub result : r ≡ movedOf h
   pub bytes : m ≡ h .part .bytes
 
 -- A whole data byte: what is returned of it, and the bytes as it leaves them.
-pub record PutWith (r : Put) (m : List ℕ) (t : Taken Store) : Type 0 where
+pub record PutWith (r : Put) (m : List ℕ) (t : Taken Cells) : Type 0 where
   pub result : r ≡ record { address = t .next .address; acknowledged = t .good }
   pub bytes : m ≡ t .next .bytes

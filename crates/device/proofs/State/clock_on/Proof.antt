@@ -5,7 +5,7 @@ use mathlib.Core.Path.{refl, sym, _∙_}
 use denote.Ref.{now}
 use borrow.Author.Needs.{needs}
 use Rattle.wire.specs.Machine.{clocked}
-use Rattle.wire.proofs.Store.{low-bytes}
+use Rattle.wire.proofs.Cells.{low-bytes}
 use Rattle.device.proofs.Cases.{at-phase, idle-clock}
 use Rattle.device.proofs.State.clock_on.Statement.{statement}
 use Rattle.device.proofs.State.clock_on.Tie as tie

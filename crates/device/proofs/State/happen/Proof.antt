@@ -16,11 +16,11 @@ same-length c = search needs
 returns : tie.Need-returns
 returns c = rw (happening-clock _ (c .before .before .before .before .if1 .taken)) (c .before .before .clock .ensures)
 
-other-requires : tie.Need-other-requires
-other-requires c κs = search needs
+unclocked-requires : tie.Need-unclocked-requires
+unclocked-requires c κs = search needs
 
 returns-2 : tie.Need-returns-2
-returns-2 c = rw (c .other .ensures _) (record { result = refl; memory = refl })
+returns-2 c = rw (c .unclocked .ensures _) (record { result = refl; memory = refl })
 
 pub happen-spec : {M : Type 1} → statement M
-happen-spec = tie.close (tie.spec clock-requires same-length returns other-requires returns-2)
+happen-spec = tie.close (tie.spec clock-requires same-length returns unclocked-requires returns-2)

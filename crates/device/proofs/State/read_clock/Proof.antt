@@ -4,7 +4,7 @@
 use mathlib.Core.Path.{refl, sym, _∙_}
 use borrow.Author.Needs.{needs}
 use Rattle.wire.specs.Machine.{clocked}
-use Rattle.wire.proofs.Store.{fetch-bytes}
+use Rattle.wire.proofs.Cells.{fetch-bytes}
 use Rattle.device.proofs.State.read_clock.Statement.{statement}
 use Rattle.device.proofs.State.read_clock.Tie as tie
 

@@ -11,9 +11,9 @@ use lib.ListN.{length, set, length-set}
 use Rattle.wire.specs.Bits.{Place, first, within, last, ack, placeAt, pushed}
 use Rattle.wire.specs.Clock.{Taken, receivedAt, received, sentAt, sent}
 use Rattle.wire.specs.Kinds.{lowByte, memoryByte, memoryRead}
-use Rattle.wire.specs.Memory.{Store, lent, next, isProtected, pointed, refusedByte, putByte, byteAt, steppedOn}
+use Rattle.wire.specs.Memory.{Cells, lent, next, isProtected, pointed, refusedByte, putByte, byteAt, steppedOn}
 
-module _ (size : ℕ) (m : Store) where
+module _ (size : ℕ) (m : Cells) where
   low-bytes-at : (l : Place) (h k b : ℕ) (d : Bool) → receivedAt l (lowByte (pointed size) h) m k b d .part .bytes ≡ m .bytes
   unfolding receivedAt
   low-bytes-at first h k b d = refl

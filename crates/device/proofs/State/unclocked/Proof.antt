@@ -4,8 +4,8 @@
 use borrow.Author.Needs.{needs}
 use Rattle.device.specs.Event.{happening}
 use Rattle.device.proofs.Cases.{happening-returned}
-use Rattle.device.proofs.State.other.Statement.{statement}
-use Rattle.device.proofs.State.other.Tie as tie
+use Rattle.device.proofs.State.unclocked.Statement.{statement}
+use Rattle.device.proofs.State.unclocked.Tie as tie
 
 start-requires : tie.Need-start-requires
 start-requires c κs = search needs
@@ -48,8 +48,8 @@ returns-5 c m = rw (c .before .match .keys5) (c .lose-all .ensures m)
 returns-6 : tie.Need-returns-6
 returns-6 c m = rw (happening-returned _ (c .before .before .pre .0) (c .before .before .pre .1) (c .before .match .rest .0 .0 .0 .0 .1) (c .before .match .rest .0 .0 .0 .1) (c .before .match .rest .0 .0 .1) (c .before .match .rest .0 .1) (c .before .match .rest .1)) (c .restore .ensures m)
 
-pub other-spec : {M : Type 1} → statement M
-other-spec =
+pub unclocked-spec : {M : Type 1} → statement M
+unclocked-spec =
     tie.close
     (tie.spec
     start-requires
