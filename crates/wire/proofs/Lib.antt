@@ -3,5 +3,7 @@ pub mod Match
 pub mod Tests
 pub mod Clock
 pub mod Cells
+pub mod Framing
+pub mod Whole
 pub mod Limits
 pub mod Keeps

@@ -7,3 +7,5 @@ pub mod Machine
 pub mod Memory
 pub mod Outcome
 pub mod Limits
+pub mod Framing
+pub mod Whole
