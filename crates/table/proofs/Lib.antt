@@ -4,3 +4,4 @@ pub mod Stored
 pub mod Protected
 pub mod Throughout
 pub mod Table
+pub mod Entry

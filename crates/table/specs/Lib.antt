@@ -4,3 +4,4 @@ pub mod Protected
 pub mod Throughout
 pub mod Script
 pub mod Table
+pub mod Entry
