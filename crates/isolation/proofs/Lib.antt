@@ -13,3 +13,4 @@ pub mod Bytes
 pub mod Clocks
 pub mod Example
 pub mod Needed
+pub mod Entry

@@ -6,3 +6,4 @@ pub mod Demand
 pub mod Demand3
 pub mod Example
 pub mod Needed
+pub mod Entry

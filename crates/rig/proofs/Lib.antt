@@ -5,4 +5,5 @@ pub mod Runs
 pub mod Views
 pub mod Ends
 pub mod Pieces
+pub mod Calls
 pub mod Unique

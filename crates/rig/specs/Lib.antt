@@ -2,5 +2,6 @@
 pub mod Layout
 pub mod Image
 pub mod Run
+pub mod Calls
 pub mod Fresh
 pub mod View

@@ -2,4 +2,6 @@
 pub mod Events
 pub mod Stored
 pub mod Protected
+pub mod Throughout
 pub mod Table
+pub mod Entry

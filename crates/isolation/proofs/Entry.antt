@@ -1,0 +1,100 @@
+-- SPDX-License-Identifier: Apache-2.0
+-- Demand 3 of the entry: what calls leave is what the run of their events leaves (`leaves-run`), and an image has the
+-- state's registers, core and addresses at their places: so what the demand says of three states holds of three images.
+-- The worked merge meets what is asked (`example-asked`).
+-- Assumes nothing.
+use Prim.Native.Nat.{ℕ, _/_, _%_}
+use mathlib.Core.Path.{_≡_, refl, sym, ap, _∙_}
+use mathlib.Core.List.{List, [], _∷_}
+use native.Mathlib.Omega.{arith}
+use Rattle.calendar.specs.Width as width
+use Rattle.companion.specs.Registers.{registerBytes}
+use Rattle.companion.specs.Limits.{alarmWithin, registersWithin, isWithin}
+use Rattle.device.specs.Chip.{fm3130}
+use Rattle.device.specs.declared.State.{State}
+use Rattle.device.proofs.Wellformed.{between-well-formed}
+use Rattle.rig.specs.Image.{calendarBytes, imageOf}
+use Rattle.rig.specs.Run.{runOf, outcomeOf}
+use Rattle.rig.specs.Calls.{leftOf}
+use Rattle.rig.proofs.Images.{decode-image}
+use Rattle.rig.proofs.Calls.{leftBy, leaves-run, one-call}
+use Rattle.isolation.specs.Merge.{eventsOf}
+use Rattle.isolation.specs.Party.{PartyEvent}
+use Rattle.isolation.specs.Demand3.{Held, bytesOf, Demanded}
+use Rattle.isolation.specs.Example.{memoryList, companionList, mergedList, started}
+use Rattle.isolation.specs.Entry.{bytesAt, DemandedOf, Asked, DemandThreeOfCalls, DemandThreeOfCall}
+use Rattle.isolation.proofs.Demand3.{demand-three}
+use Rattle.isolation.proofs.Example.{memory-whole, companion-whole, lists-merge, writes-steady}
+
+-- the places in an image
+module _ (s : State) where
+  registers-place : bytesAt 0 15 (imageOf s) ≡ registerBytes (s .companion .registers)
+  unfolding imageOf
+  registers-place = refl
+
+  core-place : bytesAt 15 7 (imageOf s) ≡ calendarBytes (s .companion .core)
+  unfolding imageOf
+  core-place = refl
+
+  companion-address-place : bytesAt 22 1 (imageOf s) ≡ s .companion .address ∷ []
+  unfolding imageOf
+  companion-address-place = refl
+
+  memory-address-place : bytesAt 23 2 (imageOf s) ≡ s .address / 256 ∷ s .address % 256 ∷ []
+  unfolding imageOf
+  memory-address-place = refl
+
+-- what is demanded of runs, of what they leave and answer
+demanded-left : (s : State) (m first second merged : List ℕ) (l : List (PartyEvent fm3130))
+    → Demanded (record { state = s; memory = m }) first second merged l
+    → DemandedOf (leftBy (runOf s m first)) (leftBy (runOf s m second)) (leftBy (runOf s m merged)) l
+demanded-left s m first second merged l d =
+    let f = runOf s m first .state in
+    let g = runOf s m second .state in
+    let h = runOf s m merged .state in
+    record {
+      memory = d .memory;
+      memory-address =
+          memory-address-place h ∙ (ap (λ (n : ℕ). n / 256 ∷ n % 256 ∷ []) (d .memory-address)
+          ∙ sym (memory-address-place f));
+      memory-lines = d .memory-lines;
+      registers = registers-place h ∙ (ap registerBytes (d .registers) ∙ sym (registers-place g));
+      core = core-place h ∙ (ap calendarBytes (d .core) ∙ sym (core-place g));
+      companion-address =
+          companion-address-place h ∙ (ap (λ (n : ℕ). n ∷ []) (d .companion-address) ∙ sym (companion-address-place g));
+      companion-answers = d .companion-answers;
+    }
+
+pub demand-three-of-calls : DemandThreeOfCalls
+demand-three-of-calls i m xs ys l q first second merged hf hs hm =
+    let s = q .state in
+    let h : Held = record { state = s; memory = m } in
+    rw (
+      leaves-run i m (bytesOf xs) first hf s (q .holds),
+      leaves-run i m (bytesOf ys) second hs s (q .holds),
+      leaves-run i m (bytesOf (eventsOf l)) merged hm s (q .holds),
+    )
+    (demanded-left s m (bytesOf xs) (bytesOf ys) (bytesOf (eventsOf l)) l
+    (demand-three h xs ys l (q .on) (q .idle) (q .first) (q .second) (q .merge) (q .steady)))
+
+pub demand-three-of-call : DemandThreeOfCall
+demand-three-of-call i m xs ys l q a b c f g h =
+    demand-three-of-calls i m xs ys l q (leftOf (outcomeOf i m (bytesOf xs) a)) (leftOf (outcomeOf i m (bytesOf ys) b))
+    (leftOf (outcomeOf i m (bytesOf (eventsOf l)) c))
+    (one-call i m (bytesOf xs) a f) (one-call i m (bytesOf ys) b g) (one-call i m (bytesOf (eventsOf l)) c h)
+
+-- the worked merge meets what is asked
+pub example-asked : (m : List ℕ) → Asked (imageOf (started m .state)) m memoryList companionList mergedList
+unfolding isWithin registersWithin alarmWithin width.isWithin
+example-asked m =
+    let s = started m .state in
+    record {
+      state = s;
+      holds = decode-image s (between-well-formed s refl (omega arith) refl);
+      on = refl;
+      idle = refl;
+      first = memory-whole;
+      second = companion-whole;
+      merge = lists-merge;
+      steady = writes-steady m;
+    }
