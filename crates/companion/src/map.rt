@@ -5,7 +5,7 @@ ghost use Prim.Native.Nat.{_<_, _≤_};
 ghost use Rattle.companion.specs.Map.{has, only};
 
 // The addresses that a rule names: 00h RTC/Alarm Control, 01h CAL/Control, 08h RTC Years (the last of the
-// calendar's), 0Eh Alarm & WP Control (the last of all).
+// calendar's), 0Eh Alarm & WP Control (the last of all); and how many there are.
 pub const CONTROL: u8 = 0;
 
 pub const TRIM: u8 = 1;
@@ -13,6 +13,8 @@ pub const TRIM: u8 = 1;
 pub const YEARS: u8 = 8;
 
 pub const LAST: u8 = 14;
+
+pub const COUNT: u8 = LAST + 1;
 
 // 00h, high bit first.
 pub const LB: u8 = 128;
