@@ -45,7 +45,7 @@ pub const ALSW: u8 = 128;
 pub const WP0: u8 = 8;
 
 // Whether a byte has the bit of a weight.
-pub fn has(byte: u8, weight: u8) -> bool
+pub(crate) fn has(byte: u8, weight: u8) -> bool
     requires { ⌜ 0 < weight ⌝ }
     ensures { λ r. ⌜ r ≡ has byte weight ⌝ }
 {
@@ -53,7 +53,7 @@ pub fn has(byte: u8, weight: u8) -> bool
 }
 
 // A bit by itself: its weight where it is on, else 0.
-pub fn only(on: bool, weight: u8) -> u8
+pub(crate) fn only(on: bool, weight: u8) -> u8
     ensures { λ r. ⌜ (r ≡ only on weight) × (r ≤ weight) ⌝ }
 {
     if on { weight } else { 0 }
