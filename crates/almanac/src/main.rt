@@ -1,6 +1,7 @@
 // SPDX-License-Identifier: Apache-2.0
-// Runs the proved calendar and prints what it does: the calendar's cases of the table, K1 to K7, and then, for every year of
-// the century, a sum over all its midnights. What it prints is compared with what the second program says.
+// Runs the proved calendar and prints what it does: the calendar's cases of the table, K1 to K7, on the dates that
+// calendar/specs/Cases has, and then, for every year of the century, a sum over all its midnights. What it prints is
+// compared with what the second program says.
 use calendar::Advanced;
 use calendar::Calendar;
 use libc::STDOUT_FILENO;
@@ -64,22 +65,22 @@ fn print_cases() {
     print_case(b"K2", last_of(4, 0x28, 0x02, 0x08));
     print_case(b"K3", last_of(6, 0x28, 0x02, 0x09));
     print_case(b"K4", last_of(2, 0x29, 0x02, 0x00));
-    let third_of_june = Calendar {
+    let noon = Calendar {
         seconds: 0x09,
         minutes: 0x34,
         hours: 0x12,
-        day: 1,
-        date: 0x03,
+        day: 6,
+        date: 0x15,
         month: 0x06,
         year: 0x24,
     };
-    print_case(b"K5", third_of_june);
+    print_case(b"K5", noon);
     let evening = Calendar {
         seconds: 0x59,
         minutes: 0x59,
         hours: 0x19,
-        day: 1,
-        date: 0x03,
+        day: 6,
+        date: 0x15,
         month: 0x06,
         year: 0x24,
     };

@@ -12,14 +12,14 @@ pub struct Carried {
 }
 
 // The number that two decimal digits stand for. Its greatest, of FFh, is 165, so it fits a byte.
-pub fn value(byte: u8) -> u8
+pub(crate) fn value(byte: u8) -> u8
     ensures { λ r. ⌜ r ≡ value byte ⌝ }
 {
     byte / 16 * 10 + byte % 16
 }
 
 // Whether a byte is two decimal digits that stand for a number from `low` to `top`, where `top` is below 100.
-pub fn in_field(byte: u8, low: u8, top: u8) -> bool
+pub(crate) fn in_field(byte: u8, low: u8, top: u8) -> bool
     ensures { λ r. ⌜ r ≡ inField low top byte ⌝ }
 {
     let number = value(byte);

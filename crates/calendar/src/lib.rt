@@ -9,8 +9,8 @@ ghost use lib.Dec.{T};
 ghost use Rattle.calendar.specs.Next.{lengthOf, isValid, tickOf, nextOf};
 ghost use Rattle.calendar.specs.Width.{isWithin};
 
-pub mod fields;
-pub mod months;
+mod fields;
+mod months;
 
 use crate::fields::in_field;
 use crate::fields::step;

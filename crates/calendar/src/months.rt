@@ -8,7 +8,7 @@ const LENGTHS: [u8; 13] = [0, 31, 28, 31, 30, 31, 30, 31, 31, 30, 31, 30, 31];
 
 // How many days a month has in a year, both as numbers; 0 where there is no such month. February has a day more when
 // the year divides by 4; all else stands in the list.
-pub fn month_length(month: u8, year: u8) -> u8
+pub(crate) fn month_length(month: u8, year: u8) -> u8
     ensures { λ r. ⌜ r ≡ monthLength month year ⌝ }
 {
     if 12 < month {

@@ -3,7 +3,7 @@
 -- stores of any byte fits it, by one law for a remainder and one for bit 7 with a remainder, both over the width.
 -- Registers are within their limits exactly if each byte fits; so a byte that fits may be put at its address.
 -- Assumes nothing.
-use Prim.Native.Nat.{ℕ, zero, _+_, _*_, _/_, _%_, _≤_, _<_}
+use Prim.Native.Nat.{ℕ, zero, _+_, _-_, _*_, _/_, _%_, _≤_, _<_}
 use mathlib.Core.Path.{_≡_, refl, sym, _∙_, ap, subst}
 use mathlib.Core.Bool.{Bool, true, false}
 use mathlib.Core.List.{[], _∷_}
@@ -41,8 +41,10 @@ fits a b =
     ∷ true ∷ [])
     a true
 
-pub stored-fits : (a b : ℕ) → a < 15 → fits a (storedAt a b) ≡ true
-stored-fits a b h = below (λ a. fits a (storedAt a b) ≡ true) each a h
+pub stored-fits : (a b : ℕ) → 1 < a → a < 15 → fits a (storedAt a b) ≡ true
+stored-fits a b g h =
+    let e : a - 2 + 2 ≡ a = omega arith in
+    subst (λ (n : ℕ). fits n (storedAt n b) ≡ true) e (below (λ k. fits (k + 2) (storedAt (k + 2) b) ≡ true) each (a - 2) (omega arith))
   where
     rest : (span : ℕ) → T (ltb zero span) → ltb (b % span) span ≡ true
     rest span t = rest-fits span b (lit< t)
@@ -50,10 +52,9 @@ stored-fits a b h = below (λ a. fits a (storedAt a b) ≡ true) each a h
     top : (span : ℕ) → T (ltb zero span) → T (leb span 128) → fixedClear span (topAndBelow span b) ≡ true
     top span t u = top-and-rest-fits span b (lit< t) (lit≤ u)
 
-    each : Below (λ a. fits a (storedAt a b) ≡ true) 15
+    each : Below (λ k. fits (k + 2) (storedAt (k + 2) b) ≡ true) 13
     each =
-        none then refl then top 64 tt tt
-        then rest 128 tt then rest 128 tt then rest 64 tt then rest 8 tt then rest 64 tt then rest 32 tt then refl
+        none then rest 128 tt then rest 128 tt then rest 64 tt then rest 8 tt then rest 64 tt then rest 32 tt then refl
         then refl then refl then top 64 tt tt then top 64 tt tt then top 32 tt tt
         then refl
 
@@ -103,6 +104,7 @@ put-fits r a b h f t k l = by-place (eqb k a) refl
     by-place false e = ap (fits k) (put-other r a b k h (eqb-false k a e)) ∙ f k l
 
 -- what a register stores keeps the registers within their limits
-pub put-within : (r : Registers) (a b : ℕ) → a < 15 → RegistersWithin r → RegistersWithin (putAt r a (storedAt a b))
-put-within r a b h w =
-    fits-within (putAt r a (storedAt a b)) (put-fits r a (storedAt a b) h (within-fits r w) (stored-fits a b h))
+pub put-within : (r : Registers) (a b : ℕ) → 1 < a → a < 15
+    → RegistersWithin r → RegistersWithin (putAt r a (storedAt a b))
+put-within r a b g h w =
+    fits-within (putAt r a (storedAt a b)) (put-fits r a (storedAt a b) h (within-fits r w) (stored-fits a b g h))

@@ -9,6 +9,7 @@ use borrow.Author.Tests.{leb-true, le-leb}
 use Rattle.calendar.specs.Width as width
 use Rattle.companion.specs.declared.Registers.{Registers}
 use Rattle.companion.specs.declared.Companion.{Companion}
+use Rattle.companion.specs.Map.{LAST}
 use Rattle.companion.specs.Limits.{fixedClear, alarmWithin, registersWithin, isWithin}
 
 -- two tests, and three
@@ -42,14 +43,14 @@ registers-test r w =
     both-true _ _ (both-true _ _ (w .trim) (w .time)) (both-true _ _ (both-true _ _ (w .hours) (w .date)) (w .month))
 
 pub record Within (c : Companion) : Type 0 where
-  pub address : c .address ≤ 14
+  pub address : c .address ≤ LAST
   pub registers : RegistersWithin (c .registers)
   pub core : width.isWithin (c .core) ≡ true
 
 pub within-facts : (c : Companion) → isWithin c ≡ true → Within c
 unfolding isWithin
 within-facts c h =
-    let f = each-true (leb (c .address) 14) (registersWithin (c .registers)) (width.isWithin (c .core)) h in
+    let f = each-true (leb (c .address) LAST) (registersWithin (c .registers)) (width.isWithin (c .core)) h in
     record { address = leb-true _ _ (f .0); registers = registers-facts (c .registers) (f .1 .0); core = f .1 .1 }
 
 pub within-test : (c : Companion) → Within c → isWithin c ≡ true
@@ -58,5 +59,5 @@ within-test c w =
     both-true _ _ (both-true _ _ (le-leb _ _ (w .address)) (registers-test (c .registers) (w .registers))) (w .core)
 
 -- what the methods that use the address require
-pub within-address : (c : Companion) → isWithin c ≡ true → c .address ≤ 14
+pub within-address : (c : Companion) → isWithin c ≡ true → c .address ≤ LAST
 within-address c h = within-facts c h .address

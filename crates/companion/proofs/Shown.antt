@@ -9,7 +9,7 @@ use lib.Dec.{leb, eqb, lit≤}
 use native.Mathlib.Omega.{arith}
 use Rattle.companion.specs.declared.Companion.{Companion}
 use Rattle.companion.specs.declared.Taken.{Taken}
-use Rattle.companion.specs.Map.{AF, AEN, CAL, ALSW, OSCEN, has, only}
+use Rattle.companion.specs.Map.{LAST, AF, AEN, CAL, ALSW, OSCEN, has, only}
 use Rattle.companion.specs.Pin.{functionOf}
 use Rattle.companion.specs.Part.{aimOf, loadedOf, tickOf, pinOf, guardOf}
 use Rattle.companion.proofs.Cases.{by-cond}
@@ -32,7 +32,7 @@ pin-le c =
 
 pub aim-guard : (c : Companion) (b : ℕ) → guardOf (aimOf c b .companion) ≡ guardOf c
 unfolding aimOf
-aim-guard c b = by-cond (λ (t : Taken). guardOf (t .companion) ≡ guardOf c) (leb b 14) (λ h. refl) (λ h. refl)
+aim-guard c b = by-cond (λ (t : Taken). guardOf (t .companion) ≡ guardOf c) (leb b LAST) (λ h. refl) (λ h. refl)
 
 pub loaded-guard : (c : Companion) (b : ℕ) → guardOf (loadedOf c b) ≡ guardOf c
 unfolding loadedOf

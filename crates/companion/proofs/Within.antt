@@ -4,13 +4,13 @@
 -- next second within them; an address is a register's or the remainder by 15; the loss of both supplies is a
 -- computation.
 -- Assumes nothing.
-use Prim.Native.Nat.{ℕ, _+_, _*_, _/_, _%_, _≤_}
+use Prim.Native.Nat.{ℕ, _+_, _*_, _/_, _%_, _≤_, _<_}
 use mathlib.Core.Path.{_≡_, refl}
-use mathlib.Core.Bool.{true, _&&_, _||_, not, cond}
+use mathlib.Core.Bool.{true, false, _&&_, _||_, not, cond}
 use native.Mathlib.Nat.{mod-lt}
 use native.Mathlib.Omega.{arith}
 use lib.Dec.{leb, eqb, lit<, lit≤}
-use borrow.Author.Tests.{leb-true}
+use borrow.Author.Tests.{leb-true, eqb-false}
 use Rattle.calendar.specs.declared.Calendar.{Calendar}
 use Rattle.calendar.specs.Width as width
 use Rattle.calendar.specs.Next.{nextOf}
@@ -18,7 +18,7 @@ use Rattle.calendar.proofs.Width.{next-within}
 use Rattle.companion.specs.declared.Registers.{Registers}
 use Rattle.companion.specs.declared.Companion.{Companion}
 use Rattle.companion.specs.declared.Taken.{Taken}
-use Rattle.companion.specs.Map.{OSCEN, CAL, W, R, has}
+use Rattle.companion.specs.Map.{LAST, OSCEN, CAL, W, R, has}
 use Rattle.companion.specs.Control.{flagsAfter, coreAfter, frozen, followed}
 use Rattle.companion.specs.Change.{withTime, withRegisters, withAddress}
 use Rattle.companion.specs.Write.{coreWritten, controlWritten, trimAfter, trimWritten, byteStored, writtenOf}
@@ -83,18 +83,22 @@ trim-written-within c b w =
       core = w .core;
     }
 
-byte-stored-within : (c : Companion) (b : ℕ) → Within c → Within (byteStored c b)
-byte-stored-within c b w =
+byte-stored-within : (c : Companion) (b : ℕ) → 1 < c .address → Within c → Within (byteStored c b)
+byte-stored-within c b h w =
     let l = w .address in
-    let r = put-within (c .registers) (c .address) b (omega arith) (w .registers) in
+    let r = put-within (c .registers) (c .address) b h (omega arith) (w .registers) in
     record { address = l; registers = r; core = w .core }
+
+above-one : (a : ℕ) → eqb a 0 ≡ false → eqb a 1 ≡ false → 1 < a
+above-one a p q = let z = eqb-false a 0 p in let o = eqb-false a 1 q in omega arith
 
 written-within : (c : Companion) (b : ℕ) → Within c → Within (writtenOf c b)
 written-within c b w =
-    let s = byte-stored-within c b w in
     by-cond Within (eqb (c .address) 0) (λ h. control-written-within c b w)
-    (λ h. by-cond Within (eqb (c .address) 1) (λ h. trim-written-within c b w)
-    (λ h. by-cond Within (leb (c .address) 8)
+    (λ p. by-cond Within (eqb (c .address) 1) (λ h. trim-written-within c b w)
+    (λ q.
+    let s = byte-stored-within c b (above-one (c .address) p q) w in
+    by-cond Within (leb (c .address) 8)
     (λ h. by-cond Within (has (c .registers .control) W) (λ h. s) (λ h. w)) (λ h. s)))
 
 -- 00h replaced, which has no fixed bit
@@ -107,7 +111,7 @@ control-within c control w =
     }
 
 -- the address replaced by a register's, or stepped on
-address-within : (c : Companion) (a : ℕ) → a ≤ 14 → Within c → isWithin (withAddress c a) ≡ true
+address-within : (c : Companion) (a : ℕ) → a ≤ LAST → Within c → isWithin (withAddress c a) ≡ true
 address-within c a h w =
     within-test (withAddress c a) (record { address = h; registers = w .registers; core = w .core })
 
@@ -117,8 +121,8 @@ stepped-within c w = address-within c (nextAddress (c .address)) (omega arith) w
 pub aim-within : (c : Companion) → isWithin c ≡ true → (b : ℕ) → isWithin (aimOf c b .companion) ≡ true
 unfolding aimOf
 aim-within c h b =
-    by-cond (λ (t : Taken). isWithin (t .companion) ≡ true) (leb b 14)
-    (λ l. address-within c b (leb-true b 14 l) (within-facts c h)) (λ l. h)
+    by-cond (λ (t : Taken). isWithin (t .companion) ≡ true) (leb b LAST)
+    (λ l. address-within c b (leb-true b LAST l) (within-facts c h)) (λ l. h)
 
 pub store-within : (c : Companion) → isWithin c ≡ true → (b : ℕ) → isWithin (storeOf c b .companion) ≡ true
 unfolding storeOf

@@ -3,6 +3,7 @@
 -- document 000's register table for 0Eh).
 --   CONTROL TRIM YEARS LAST    the addresses that a rule names: 00h RTC/Alarm Control, 01h CAL/Control, 08h RTC Years
 --                              (the last of the calendar's, 02h to 08h), 0Eh Alarm & WP Control (the last of all)
+--   COUNT                      how many registers there are
 --   LB AF CF POR AEN CAL W R   the bits of 00h, high bit first
 --   OSCEN                      bit 7 of 01h
 --   MATCH                      bit 7 of 09h to 0Dh
@@ -10,7 +11,7 @@
 --   has byte weight            the byte has the bit of that weight
 --   only on weight             a bit alone: its weight where it is on, else 0
 -- Assumes nothing.
-use Prim.Native.Nat.{ℕ, _/_, _%_}
+use Prim.Native.Nat.{ℕ, _+_, _/_, _%_}
 use mathlib.Core.Bool.{Bool, cond}
 use lib.Dec.{eqb}
 
@@ -26,6 +27,9 @@ YEARS = 8
 
 abbrev pub LAST : ℕ
 LAST = 14
+
+abbrev pub COUNT : ℕ
+COUNT = LAST + 1
 
 -- 01, Registers: "00h, high bit first: LB AF CF POR AEN CAL W R".
 abbrev pub LB : ℕ

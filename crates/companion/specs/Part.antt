@@ -12,7 +12,7 @@ use mathlib.Core.Bool.{true, false, cond}
 use lib.Dec.{leb, eqb}
 use Rattle.companion.specs.declared.Companion.{Companion}
 use Rattle.companion.specs.declared.Taken.{Taken}
-use Rattle.companion.specs.Map.{CONTROL, LAST}
+use Rattle.companion.specs.Map.{CONTROL, COUNT, LAST}
 use Rattle.companion.specs.Registers.{registerAt, putAt}
 use Rattle.companion.specs.Control.{flagsAfter}
 use Rattle.companion.specs.Change.{withRegisters, withAddress}
@@ -24,7 +24,7 @@ unfoldable pub use Rattle.companion.specs.Limits.{isWithin}
 
 -- 01, Transfers (ruling): the address steps on, "the companion from 0Eh to 00h".
 abbrev pub nextAddress : ℕ → ℕ
-nextAddress a = (a + 1) % 15
+nextAddress a = (a + 1) % COUNT
 
 -- 01, Transfers: "and then the address steps on".
 abbrev pub steppedOf : Companion → Companion

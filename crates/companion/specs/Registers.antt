@@ -4,9 +4,9 @@
 --   registerBytes, registersOf   the registers as a list, and back
 --   registerAt, putAt            the byte at an address; the registers with another byte there
 --   topAndBelow span b           bit 7 of a byte, and its bits below a span
---   storedAt a b                 what the register at an address keeps of a byte
+--   storedAt a b                 what the register at an address from 02h on keeps of a byte
 -- Assumes nothing.
-use Prim.Native.Nat.{ℕ, _+_, _*_, _/_, _%_}
+use Prim.Native.Nat.{ℕ, _+_, _-_, _*_, _/_, _%_}
 use mathlib.Core.List.{List, [], _∷_}
 use lib.ListN.{getD, set}
 use Rattle.companion.specs.declared.Registers.{Registers}
@@ -59,14 +59,13 @@ putAt r a b = registersOf (set (registerBytes r) a b)
 abbrev pub topAndBelow : ℕ → ℕ → ℕ
 topAndBelow span b = b / 128 * 128 + b % span
 
--- 01, Registers: "01h: OSCEN, 0, CALS, five CAL bits"; "Stored bits: 7Fh, 7Fh, 3Fh, 07h, 3Fh, 1Fh, FFh"; "09h to 0Dh:
--- .. bit 7 is Match, the rest as the calendar byte"; 01, Transfers (ruling): "All eight bits of 0Eh are stored". (A
--- write of 00h or 01h has rules of its own besides.)
+-- 01, Registers: "02h to 08h: .. Stored bits: 7Fh, 7Fh, 3Fh, 07h, 3Fh, 1Fh, FFh"; "09h to 0Dh: .. bit 7 is Match, the
+-- rest as the calendar byte"; 01, Transfers (ruling): "All eight bits of 0Eh are stored". (A write of 00h or 01h has
+-- rules of its own.)
 abbrev pub storedAt : ℕ → ℕ → ℕ
 storedAt a b =
     getD
-    (b ∷ topAndBelow 64 b
-    ∷ b % 128 ∷ b % 128 ∷ b % 64 ∷ b % 8 ∷ b % 64 ∷ b % 32 ∷ b
+    (b % 128 ∷ b % 128 ∷ b % 64 ∷ b % 8 ∷ b % 64 ∷ b % 32 ∷ b
     ∷ topAndBelow 128 b ∷ topAndBelow 128 b ∷ topAndBelow 64 b ∷ topAndBelow 64 b ∷ topAndBelow 32 b
     ∷ b ∷ [])
-    a 0
+    (a - 2) 0

@@ -1,15 +1,16 @@
 // SPDX-License-Identifier: Apache-2.0
-// The fifteen registers by address: what stands there, what a store leaves, and which bits of a byte each register
-// keeps.
+// The fifteen registers by address: what stands there, and what a store leaves; and which bits of a byte each of 02h to
+// 0Eh keeps. A write of 00h or 01h has rules of its own.
 ghost use mathlib.Core.Path.{_≡_};
 ghost use Prim.Native.Nat.{_<_, _≤_};
+ghost use Rattle.companion.specs.Map.{TRIM, LAST};
 ghost use Rattle.companion.specs.Registers.{registerAt, putAt, topAndBelow, storedAt};
 use crate::Registers;
 
 impl Registers {
     // The byte at an address.
-    pub fn read(self, address: u8) -> u8
-        requires { ⌜ address ≤ 14 ⌝ }
+    pub(crate) fn read(self, address: u8) -> u8
+        requires { ⌜ address ≤ LAST ⌝ }
         ensures { λ r. ⌜ r ≡ registerAt self address ⌝ }
     {
         match address {
@@ -32,8 +33,8 @@ impl Registers {
     }
 
     // The registers with a byte at an address.
-    pub fn put(mut self, address: u8, byte: u8) -> Registers
-        requires { ⌜ address ≤ 14 ⌝ }
+    pub(crate) fn put(mut self, address: u8, byte: u8) -> Registers
+        requires { ⌜ address ≤ LAST ⌝ }
         ensures { λ r. ⌜ r ≡ putAt self address byte ⌝ }
     {
         match address {
@@ -65,14 +66,12 @@ fn top_and_below(span: u8, byte: u8) -> u8
     byte / 128 * 128 + byte % span
 }
 
-// What the register at an address keeps of a byte; a write of 00h or 01h has rules of its own besides.
-pub fn stored(address: u8, byte: u8) -> u8
-    requires { ⌜ address ≤ 14 ⌝ }
+// What the register at an address from 02h on keeps of a byte.
+pub(crate) fn stored(address: u8, byte: u8) -> u8
+    requires { ⌜ (TRIM < address) × (address ≤ LAST) ⌝ }
     ensures { λ r. ⌜ r ≡ storedAt address byte ⌝ }
 {
     match address {
-        0 => byte,
-        1 => top_and_below(64, byte),
         2 => byte % 128,
         3 => byte % 128,
         4 => byte % 64,

@@ -14,7 +14,7 @@ use crate::map::only;
 use calendar::Calendar;
 
 // 00h with AF and CF as said, the rest kept.
-pub fn flagged(control: u8, af: bool, cf: bool) -> u8
+pub(crate) fn flagged(control: u8, af: bool, cf: bool) -> u8
     ensures { λ r. ⌜ r ≡ flagged control af cf ⌝ }
 {
     control / 128 * 128 + only(af, AF) + only(cf, CF) + control % 32
@@ -22,7 +22,7 @@ pub fn flagged(control: u8, af: bool, cf: bool) -> u8
 
 // 00h after a write of a byte: LB and POR stay only where the byte has them too, AF and CF stay, the low four are the
 // byte's.
-pub fn control_after(old: u8, byte: u8) -> u8
+pub(crate) fn control_after(old: u8, byte: u8) -> u8
     ensures { λ r. ⌜ r ≡ controlAfter old byte ⌝ }
 {
     let lb = only(has(old, LB) & has(byte, LB), LB);
@@ -31,7 +31,7 @@ pub fn control_after(old: u8, byte: u8) -> u8
 }
 
 // 00h after it was read as a byte: a flag that the byte showed is cleared, one that rose later is not.
-pub fn flags_after(control: u8, byte: u8) -> u8
+pub(crate) fn flags_after(control: u8, byte: u8) -> u8
     ensures { λ r. ⌜ r ≡ flagsAfter control byte ⌝ }
 {
     let af = has(control, AF) & !has(byte, AF);
@@ -40,7 +40,7 @@ pub fn flags_after(control: u8, byte: u8) -> u8
 }
 
 // The core after a write of 00h: where W falls it takes 02h to 08h.
-pub fn core_after(old: u8, byte: u8, core: Calendar, time: Calendar) -> Calendar
+pub(crate) fn core_after(old: u8, byte: u8, core: Calendar, time: Calendar) -> Calendar
     ensures { λ r. ⌜ r ≡ coreAfter old byte core time ⌝ }
 {
     if has(old, W) & !has(byte, W) {
@@ -60,7 +60,7 @@ fn frozen(old: u8, byte: u8, core: Calendar, time: Calendar) -> Calendar
 }
 
 // 02h to 08h where R and W are 0: they follow the core.
-pub fn followed(control: u8, core: Calendar, time: Calendar) -> Calendar
+pub(crate) fn followed(control: u8, core: Calendar, time: Calendar) -> Calendar
     ensures { λ r. ⌜ r ≡ followed control core time ⌝ }
 {
     if has(control, W) | has(control, R) {
@@ -70,7 +70,7 @@ pub fn followed(control: u8, core: Calendar, time: Calendar) -> Calendar
 }
 
 // 02h to 08h after a write of 00h, given the core as the write leaves it.
-pub fn time_after(old: u8, byte: u8, core: Calendar, time: Calendar) -> Calendar
+pub(crate) fn time_after(old: u8, byte: u8, core: Calendar, time: Calendar) -> Calendar
     ensures { λ r. ⌜ r ≡ timeAfter old byte core time ⌝ }
 {
     let shown = frozen(old, byte, core, time);

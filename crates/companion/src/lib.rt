@@ -19,7 +19,7 @@ mod access;
 mod change;
 mod control;
 mod limits;
-mod map;
+pub mod map;
 mod part;
 mod pin;
 mod power;

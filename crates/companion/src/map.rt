@@ -5,7 +5,7 @@ ghost use Prim.Native.Nat.{_<_, _≤_};
 ghost use Rattle.companion.specs.Map.{has, only};
 
 // The addresses that a rule names: 00h RTC/Alarm Control, 01h CAL/Control, 08h RTC Years (the last of the
-// calendar's), 0Eh Alarm & WP Control (the last of all).
+// calendar's), 0Eh Alarm & WP Control (the last of all); and how many there are.
 pub const CONTROL: u8 = 0;
 
 pub const TRIM: u8 = 1;
@@ -13,6 +13,8 @@ pub const TRIM: u8 = 1;
 pub const YEARS: u8 = 8;
 
 pub const LAST: u8 = 14;
+
+pub const COUNT: u8 = LAST + 1;
 
 // 00h, high bit first.
 pub const LB: u8 = 128;
@@ -43,7 +45,7 @@ pub const ALSW: u8 = 128;
 pub const WP0: u8 = 8;
 
 // Whether a byte has the bit of a weight.
-pub fn has(byte: u8, weight: u8) -> bool
+pub(crate) fn has(byte: u8, weight: u8) -> bool
     requires { ⌜ 0 < weight ⌝ }
     ensures { λ r. ⌜ r ≡ has byte weight ⌝ }
 {
@@ -51,7 +53,7 @@ pub fn has(byte: u8, weight: u8) -> bool
 }
 
 // A bit by itself: its weight where it is on, else 0.
-pub fn only(on: bool, weight: u8) -> u8
+pub(crate) fn only(on: bool, weight: u8) -> u8
     ensures { λ r. ⌜ (r ≡ only on weight) × (r ≤ weight) ⌝ }
 {
     if on { weight } else { 0 }

@@ -2,26 +2,28 @@
 // The companion in a transfer: an address byte, a data byte, a byte that is read and the end of that read.
 ghost use mathlib.Core.Path.{_≡_};
 ghost use Prim.Native.Nat.{_≤_};
+ghost use Rattle.companion.specs.Map.{LAST};
 ghost use Rattle.companion.specs.Part.{nextAddress, steppedOf, refusedAddress, controlRead};
 ghost use Rattle.companion.specs.Part.{aimOf, storeOf, loadOf, loadedOf};
 use crate::Companion;
 use crate::Taken;
 use crate::control::flags_after;
 use crate::map::CONTROL;
+use crate::map::COUNT;
 use crate::map::LAST;
 
 // The address after one: from 0Eh back to 00h.
 fn next_address(address: u8) -> u8
-    requires { ⌜ address ≤ 14 ⌝ }
+    requires { ⌜ address ≤ LAST ⌝ }
     ensures { λ r. ⌜ r ≡ nextAddress address ⌝ }
 {
-    (address + 1) % 15
+    (address + 1) % COUNT
 }
 
 impl Companion {
     // The companion once its address stepped on.
     fn stepped(self) -> Companion
-        requires { ⌜ self .address ≤ 14 ⌝ }
+        requires { ⌜ self .address ≤ LAST ⌝ }
         ensures { λ r. ⌜ r ≡ steppedOf self ⌝ }
     {
         let next = next_address(self.address);
@@ -53,7 +55,7 @@ impl Companion {
 
     // A data byte at its eighth clock: written to the register at the address, and the address steps on.
     pub fn store(self, byte: u8) -> Taken
-        requires { ⌜ self .address ≤ 14 ⌝ }
+        requires { ⌜ self .address ≤ LAST ⌝ }
         ensures { λ r. ⌜ r ≡ storeOf self byte ⌝ }
     {
         let changed = self.written(byte);
@@ -65,7 +67,7 @@ impl Companion {
 
     // The byte at the address.
     pub fn load(self) -> u8
-        requires { ⌜ self .address ≤ 14 ⌝ }
+        requires { ⌜ self .address ≤ LAST ⌝ }
         ensures { λ r. ⌜ r ≡ loadOf self ⌝ }
     {
         let registers = self.registers;
@@ -76,15 +78,15 @@ impl Companion {
     fn control_read(self, byte: u8) -> Companion
         ensures { λ r. ⌜ r ≡ controlRead self byte ⌝ }
     {
-        let mut registers = self.registers;
-        registers.control = flags_after(self.registers.control, byte);
-        self.with_registers(registers)
+        let registers = self.registers;
+        let control = flags_after(registers.control, byte);
+        self.with_registers(registers.put(CONTROL, control))
     }
 
     // The end of a read whose byte was fixed as the one given: of 00h the flags it showed are cleared; the address
     // steps on.
     pub fn loaded(self, byte: u8) -> Companion
-        requires { ⌜ self .address ≤ 14 ⌝ }
+        requires { ⌜ self .address ≤ LAST ⌝ }
         ensures { λ r. ⌜ r ≡ loadedOf self byte ⌝ }
     {
         if self.address == CONTROL {

@@ -5,6 +5,7 @@ ghost use Rattle.companion.specs.Power.{lostDate, lostRegisters, backedO
 use crate::Alarm;
 use crate::Companion;
 use crate::Registers;
+use crate::map::CONTROL;
 use crate::map::LB;
 use crate::map::OSCEN;
 use crate::map::POR;
@@ -75,8 +76,8 @@ impl Companion {
     pub fn returned(self) -> Companion
         ensures { λ r. ⌜ r ≡ returnedOf self ⌝ }
     {
-        let mut registers = self.registers;
-        registers.control = por_set(self.registers.control);
-        self.with_registers(registers)
+        let registers = self.registers;
+        let control = por_set(registers.control);
+        self.with_registers(registers.put(CONTROL, control))
     }
 }

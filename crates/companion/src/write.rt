@@ -1,7 +1,8 @@
 // SPDX-License-Identifier: Apache-2.0
 // What a data byte does to the register at the companion's address.
 ghost use mathlib.Core.Path.{_≡_};
-ghost use Prim.Native.Nat.{_≤_};
+ghost use Prim.Native.Nat.{_<_, _≤_};
+ghost use Rattle.companion.specs.Map.{TRIM, LAST};
 ghost use Rattle.companion.specs.Write.{controlWritten, trimAfter, trimWritten};
 ghost use Rattle.companion.specs.Write.{byteStored, timeWritten, writtenOf};
 use crate::Companion;
@@ -47,14 +48,14 @@ impl Companion {
     fn trim_written(self, byte: u8) -> Companion
         ensures { λ r. ⌜ r ≡ trimWritten self byte ⌝ }
     {
-        let mut registers = self.registers;
-        registers.trim = trim_after(self.registers.control, self.registers.trim, byte);
-        self.with_registers(registers)
+        let registers = self.registers;
+        let trim = trim_after(registers.control, registers.trim, byte);
+        self.with_registers(registers.put(TRIM, trim))
     }
 
     // A write to a register that keeps its stored bits at any time.
     fn byte_stored(self, byte: u8) -> Companion
-        requires { ⌜ self .address ≤ 14 ⌝ }
+        requires { ⌜ (TRIM < self .address) × (self .address ≤ LAST) ⌝ }
         ensures { λ r. ⌜ r ≡ byteStored self byte ⌝ }
     {
         let address = self.address;
@@ -65,7 +66,7 @@ impl Companion {
 
     // A write to one of 02h to 08h: stored only with W at 1.
     fn time_written(self, byte: u8) -> Companion
-        requires { ⌜ self .address ≤ 14 ⌝ }
+        requires { ⌜ (TRIM < self .address) × (self .address ≤ LAST) ⌝ }
         ensures { λ r. ⌜ r ≡ timeWritten self byte ⌝ }
     {
         if has(self.registers.control, W) {
@@ -76,7 +77,7 @@ impl Companion {
 
     // A write to the register at the address.
     pub(crate) fn written(self, byte: u8) -> Companion
-        requires { ⌜ self .address ≤ 14 ⌝ }
+        requires { ⌜ self .address ≤ LAST ⌝ }
         ensures { λ r. ⌜ r ≡ writtenOf self byte ⌝ }
     {
         let address = self.address;

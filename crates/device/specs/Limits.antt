@@ -8,6 +8,7 @@ use Rattle.wire.specs.Slave.{slaveNames}
 use Rattle.wire.specs.Limits.{phaseWithin}
 use Rattle.wire.specs.declared.Phase.{Phase}
 use Rattle.wire.specs.declared.Phase.the-variants.{Idle, Slave, AddressHigh, AddressLow, Pointer, Write, Read}
+use Rattle.companion.specs.Map.{LAST}
 use Rattle.companion.specs.Part.{isWithin}
 use Rattle.device.specs.Chip.{memorySize}
 use Rattle.device.specs.declared.Power.{Power}
@@ -16,7 +17,7 @@ use Rattle.device.specs.declared.State.{State}
 
 -- "Companion address at most 14": the address bytes that are acknowledged.
 abbrev pub isLegal : ℕ → Bool
-isLegal b = leb b 14
+isLegal b = leb b LAST
 
 abbrev pub isIdle : Phase → Bool
 isIdle Idle = true

@@ -11,6 +11,7 @@ use mathlib.Core.Bool.{Bool, cond}
 use mathlib.Core.List.{List}
 use lib.Dec.{eqb, ltb}
 use lib.ListN.{length}
+use Rattle.companion.specs.Map.{LAST}
 use Rattle.device.specs.Numbers.{accepted, wrongMemory, wrongState, unknownEvent}
 use Rattle.device.specs.Chip.{memorySize, Done}
 use Rattle.device.specs.Event.{still, eventOf}
@@ -25,7 +26,7 @@ use Rattle.device.specs.declared.Stepped.{Stepped}
 pub record Ready (s : State) (m : List ℕ) : Type 0 where
   pub memory : length m ≡ memorySize
   pub address : s .address < memorySize
-  pub desk : s .companion .address ≤ 14
+  pub desk : s .companion .address ≤ LAST
 
 -- Auxiliary: what a function returns, and the memory it leaves, are those of an event.
 pub record HappenedWith (r : Happened) (m : List ℕ) (d : Done) : Type 0 where

@@ -6,12 +6,14 @@ ghost use Prim.Native.Nat.{_≤_};
 ghost use Rattle.wire.specs.Clock.{received, sent};
 ghost use Rattle.wire.specs.Kinds.{pointerByte, companionByte, companionRead};
 ghost use Rattle.wire.specs.declared.Phase.the-variants.{Write, Read};
+ghost use Rattle.companion.specs.Map.{LAST};
 ghost use Rattle.companion.specs.Part.{guardOf, loadOf, loadedOf};
 ghost use Rattle.device.specs.Desk.{aims, stores, changedOf};
 ghost use Rattle.device.specs.Bus.{withPhase, withTurned, withMoved, withChanged, clockedWith};
 ghost use Rattle.device.specs.Step.{Ready, HappenedWith};
 use crate::Changed;
 use crate::Happened;
+use crate::MEMORY_SIZE;
 use crate::State;
 use crate::desk::load_clock;
 use crate::desk::pointer_clock;
@@ -25,9 +27,6 @@ use wire::fetching::fetch_clock;
 use wire::slave::high_clock;
 use wire::slave::slave_clock;
 use wire::storing::put_clock;
-
-// The bytes of memory.
-pub const SIZE: u16 = 8192;
 
 impl State {
     // The state in another phase.
@@ -112,7 +111,7 @@ impl State {
 
     // A Clock in a data byte for the companion.
     fn store_clock(self, clocks: u8, byte: u8, high: bool) -> Happened
-        requires { ⌜ self .companion .address ≤ 14 ⌝ }
+        requires { ⌜ self .companion .address ≤ LAST ⌝ }
         ensures { λ r. ⌜ r ≡ withChanged self (changedOf (received (companionByte stores) (self .companion) clocks byte high)) ⌝ }
     {
         let companion = self.companion;
@@ -121,7 +120,7 @@ impl State {
 
     // A Clock in a data byte from the companion.
     fn load_clock(self, clocks: u8, byte: u8, high: bool) -> Happened
-        requires { ⌜ self .companion .address ≤ 14 ⌝ }
+        requires { ⌜ self .companion .address ≤ LAST ⌝ }
         ensures { λ r. ⌜ r ≡ withChanged self (changedOf (sent (companionRead loadOf loadedOf) (self .companion) clocks byte high)) ⌝ }
     {
         let companion = self.companion;
@@ -143,7 +142,7 @@ impl State {
         match side {
             Side::Memory => {
                 let guard = self.guard();
-                self.moved(put_clock(memory, SIZE, guard, self.address, clocks, byte, high))
+                self.moved(put_clock(memory, MEMORY_SIZE, guard, self.address, clocks, byte, high))
             }
             Side::Companion => self.store_clock(clocks, byte, high),
         }
@@ -155,7 +154,14 @@ impl State {
         ensures { λ r. ⌜ HappenedWith r (now (memory .entry)) (clockedWith self (now (memory .entry)) (Read side clocks byte) high) ⌝ }
     {
         match side {
-            Side::Memory => self.moved(fetch_clock(memory, SIZE, self.address, clocks, byte, high)),
+            Side::Memory => self.moved(fetch_clock(
+                memory,
+                MEMORY_SIZE,
+                self.address,
+                clocks,
+                byte,
+                high,
+            )),
             Side::Companion => self.load_clock(clocks, byte, high),
         }
     }
@@ -177,7 +183,7 @@ impl State {
                 high: upper,
                 clocks,
                 byte,
-            } => self.moved(low_clock(SIZE, self.address, upper, clocks, byte, high)),
+            } => self.moved(low_clock(MEMORY_SIZE, self.address, upper, clocks, byte, high)),
             Phase::Pointer { clocks, byte } => self.pointer_clock(clocks, byte, high),
             Phase::Write { side, clocks, byte } => self.write_clock(
                 memory,

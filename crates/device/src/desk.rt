@@ -4,6 +4,7 @@ ghost use mathlib.Core.Path.{_≡_};
 ghost use Prim.Native.Nat.{_≤_};
 ghost use Rattle.wire.specs.Clock.{received, sent};
 ghost use Rattle.wire.specs.Kinds.{pointerByte, companionByte, companionRead};
+ghost use Rattle.companion.specs.Map.{LAST};
 ghost use Rattle.companion.specs.Part.{loadOf, loadedOf};
 ghost use Rattle.device.specs.Desk.{aims, stores, changedOf};
 use crate::Changed;
@@ -59,7 +60,7 @@ pub(crate) fn pointer_clock(companion: Companion, clocks: u8, byte: u8, high: bo
 
 // A Clock in a data byte from the master.
 pub(crate) fn store_clock(companion: Companion, clocks: u8, byte: u8, high: bool) -> Changed
-    requires { ⌜ companion .address ≤ 14 ⌝ }
+    requires { ⌜ companion .address ≤ LAST ⌝ }
     ensures { λ r. ⌜ r ≡ changedOf (received (companionByte stores) companion clocks byte high) ⌝ }
 {
     if clocks < 7 {
@@ -103,7 +104,7 @@ pub(crate) fn store_clock(companion: Companion, clocks: u8, byte: u8, high: bool
 
 // A Clock in a data byte to the master.
 pub(crate) fn load_clock(companion: Companion, clocks: u8, byte: u8, high: bool) -> Changed
-    requires { ⌜ companion .address ≤ 14 ⌝ }
+    requires { ⌜ companion .address ≤ LAST ⌝ }
     ensures { λ r. ⌜ r ≡ changedOf (sent (companionRead loadOf loadedOf) companion clocks byte high) ⌝ }
 {
     if clocks == 0 {

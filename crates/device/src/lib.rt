@@ -19,6 +19,9 @@ pub mod numbers;
 mod step;
 mod supply;
 
+// The bytes of memory.
+pub const MEMORY_SIZE: u16 = 8192;
+
 // Which supplies are present: main power; backup alone; none.
 pub enum Power {
     On,

@@ -5,9 +5,10 @@ ghost use Rattle.wire.specs.Slave.{slaveNames};
 ghost use Rattle.wire.specs.Limits.{bitsFit, phaseWithin};
 ghost use Rattle.wire.specs.declared.Phase.the-variants.{Slave, Pointer, Read};
 ghost use Rattle.device.specs.Limits.{isLegal, isIdle, powerWithin, wellFormed};
+use crate::MEMORY_SIZE;
 use crate::Power;
 use crate::State;
-use crate::bus::SIZE;
+use companion::map::LAST;
 use wire::Phase;
 use wire::Side;
 use wire::slave::answers;
@@ -48,7 +49,7 @@ fn pointer_within(clocks: u8, byte: u8) -> bool
 {
     let fit = bits_fit(clocks, byte);
     if clocks == 8 {
-        return fit & (byte <= 14);
+        return fit & (byte <= LAST);
     }
     fit
 }
@@ -130,7 +131,7 @@ impl State {
         let power = self.power;
         let phase = self.phase;
         let companion = self.companion;
-        (self.address < SIZE)
+        (self.address < MEMORY_SIZE)
             & companion.is_within()
             & phase_within(phase)
             & power_within(power, phase)

@@ -6,9 +6,9 @@ ghost use Rattle.device.specs.Event.{eventOf};
 ghost use Rattle.device.specs.Step.{Ready, Stills, HappenedWith, AnsweredWith, refusal, acceptance, StepSettled};
 use crate::Answered;
 use crate::Happened;
+use crate::MEMORY_SIZE;
 use crate::State;
 use crate::Stepped;
-use crate::bus::SIZE;
 use crate::numbers::ACCEPTED;
 use crate::numbers::UNKNOWN_EVENT;
 use crate::numbers::WRONG_MEMORY;
@@ -85,7 +85,7 @@ impl State {
     pub fn step(self, memory: &mut [u8], event: u8) -> Stepped
         ensures { λ r. ⌜ StepSettled self (now (memory .entry)) event r (now (memory .exit)) ⌝ }
     {
-        if memory.len() != SIZE as usize {
+        if memory.len() != MEMORY_SIZE as usize {
             return refused(WRONG_MEMORY, self);
         }
         if self.is_well_formed() {

@@ -1,12 +1,13 @@
 -- SPDX-License-Identifier: Apache-2.0
 -- No second outcome satisfies an entry's contract: each contract says that what comes out is one definition of what
--- went in.
+-- went in. `unique` is the law for every other public function too, whose contract is such an equation, or some of them.
 -- Assumes nothing.
 use Prim.Native.Nat.{ℕ}
 use mathlib.Core.Path.{_≡_, sym, _∙_}
 use mathlib.Core.List.{List}
 use denote.Ref.{RefT}
-use Rattle.rig.specs.Image.{DecodeSettled}
+use Rattle.device.specs.declared.State.{State}
+use Rattle.rig.specs.Image.{imageOf, DecodeSettled}
 use Rattle.rig.specs.Run.{RunSettled}
 use Rattle.rig.specs.Fresh.{FreshSettled}
 use Rattle.rig.specs.View.{ViewNumberSettled, ViewSettled}
@@ -15,7 +16,7 @@ use Rattle.rig.specs.declared.Ran.{Ran}
 use Rattle.rig.proofs.Images.{settled-decode}
 
 -- what equals one definition is one thing
-unique : {A : Type 0} {x y d : A} → x ≡ d → y ≡ d → x ≡ y
+pub unique : {A : Type 0} {x y d : A} → x ≡ d → y ≡ d → x ≡ y
 unique p q = p ∙ sym q
 
 -- the list run: number, count, image, memory and answers
@@ -41,6 +42,10 @@ view-unique i m selector start len r r₂ p q = (unique (p .bytes) (q .bytes), u
 pub view-number-unique : (i m : List ℕ) (selector start len n n₂ : ℕ)
     → ViewNumberSettled i m selector start len n → ViewNumberSettled i m selector start len n₂ → n ≡ n₂
 view-number-unique i m selector start len n n₂ p q = unique p q
+
+-- writing an image
+pub image-unique : (s : State) (i i₂ : List ℕ) → i ≡ imageOf s → i₂ ≡ imageOf s → i ≡ i₂
+image-unique s i i₂ p q = unique p q
 
 -- reading an image
 pub decode-unique : (i : List ℕ) (r r₂ : Decoded) → DecodeSettled i r → DecodeSettled i r₂ → r ≡ r₂

@@ -12,13 +12,14 @@ use mathlib.Core.List.{List, []}
 use denote.Ref.{RefT}
 use lib.Dec.{leb, eqb}
 use lib.ListN.{length, take, drop}
+use Rattle.companion.specs.Map.{COUNT}
 use Rattle.device.specs.Numbers.{accepted, wrongMemory, wrongState, unknownSelector, pastTheEnd}
 use Rattle.device.specs.Chip.{memorySize}
 use Rattle.rig.specs.Image.{imageSize}
 
 -- "The image's first 15 bytes are registers 00h to 0Eh."
 abbrev pub registersIn : List ℕ → List ℕ
-registersIn i = take 15 i
+registersIn i = take COUNT i
 
 -- "Start + length (exact sum) passes the end of the chosen bytes."
 abbrev pub endNumber : ℕ → ℕ → ℕ

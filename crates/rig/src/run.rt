@@ -16,6 +16,7 @@ use crate::image::LENGTH;
 use crate::image::decode;
 use crate::image::image_of;
 use crate::image::write_image;
+use device::MEMORY_SIZE;
 use device::State;
 use device::numbers::ACCEPTED;
 use device::numbers::SHORT_ANSWERS;
@@ -23,8 +24,8 @@ use device::numbers::UNKNOWN_EVENT;
 use device::numbers::WRONG_MEMORY;
 use device::numbers::WRONG_STATE;
 
-// The bytes of memory.
-pub const MEMORY: usize = 8192;
+// The bytes of memory, as a length.
+pub const MEMORY: usize = MEMORY_SIZE as usize;
 
 // Whether every event byte is one of the eight. All are tested, with no way out of the loop, so that many go at once.
 fn all_known(events: &[u8]) -> bool

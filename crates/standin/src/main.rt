@@ -10,6 +10,8 @@
 ghost use Prim.Native.Nat.{_≤_};
 use libc::STDIN_FILENO;
 use libc::STDOUT_FILENO;
+use rig::image::LENGTH;
+use rig::run::MEMORY;
 use rig::run::fm3130_fresh;
 use rig::run::fm3130_run;
 
@@ -148,8 +150,8 @@ fn all_frames(image: &mut [u8], memory: &mut [u8], events: &mut [u8], answers: &
 }
 
 fn main() {
-    let mut image = [0u8; 64];
-    let mut memory = [0u8; 8192];
+    let mut image = [0u8; LENGTH];
+    let mut memory = [0u8; MEMORY];
     let mut events = io::large_buffer();
     let mut answers = io::large_buffer();
     begin(&mut image, &mut memory);

@@ -13,7 +13,7 @@ use crate::Side;
 use crate::bits::push;
 
 // The address that two address bytes give: bits above the size are ignored.
-pub fn join(size: u16, high: u8, low: u8) -> u16
+fn join(size: u16, high: u8, low: u8) -> u16
     requires { ⌜ 0 < size ⌝ }
     ensures { λ r. ⌜ r ≡ joined size high low ⌝ }
 {
@@ -21,7 +21,7 @@ pub fn join(size: u16, high: u8, low: u8) -> u16
 }
 
 // The address after one, back to 0 after the last.
-pub fn next_address(size: u16, address: u16) -> u16
+pub(crate) fn next_address(size: u16, address: u16) -> u16
     requires { ⌜ address < size ⌝ }
     ensures { λ r. ⌜ r ≡ next size address ⌝ }
 {

@@ -17,7 +17,7 @@ pub fn push(byte: u8, high: bool) -> u8
 }
 
 // The bit of a byte that goes out when so many of its clocks are done.
-pub fn sent_bit(byte: u8, clocks: u8) -> bool
+fn sent_bit(byte: u8, clocks: u8) -> bool
     requires { ⌜ clocks ≤ 7 ⌝ }
     ensures { λ r. ⌜ r ≡ sentBit clocks byte ⌝ }
 {

@@ -38,7 +38,7 @@ pub fn answers(named: Named) -> bool
 }
 
 // The phase after the acknowledge of a slave byte that names so.
-pub fn opened(named: Named) -> Phase
+fn opened(named: Named) -> Phase
     ensures { λ r. ⌜ r ≡ opened named ⌝ }
 {
     match named {

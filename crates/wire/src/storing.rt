@@ -17,7 +17,7 @@ use crate::between::keep;
 use crate::bits::push;
 
 // The first address that the protection bits WP1 WP0, as a number, leave free.
-pub fn protected_below(size: u16, guard: u8) -> u16
+fn protected_below(size: u16, guard: u8) -> u16
     ensures { λ r. ⌜ r ≡ protectedBelow size guard ⌝ }
 {
     match guard {
@@ -29,7 +29,7 @@ pub fn protected_below(size: u16, guard: u8) -> u16
 }
 
 // Whether a data byte for an address is refused.
-pub fn is_protected(size: u16, guard: u8, address: u16) -> bool
+fn is_protected(size: u16, guard: u8, address: u16) -> bool
     ensures { λ r. ⌜ r ≡ isProtected size guard address ⌝ }
 {
     address < protected_below(size, guard)
@@ -46,7 +46,7 @@ fn refuse(address: u16) -> Put
 }
 
 // A whole data byte for the memory: stored, and the address steps on; or refused, where the address is protected.
-pub fn put(memory: &mut [u8], size: u16, guard: u8, address: u16, byte: u8) -> Put
+fn put(memory: &mut [u8], size: u16, guard: u8, address: u16, byte: u8) -> Put
     requires { ⌜ (length (now memory) ≡ size) × (address < size) ⌝ }
     ensures { λ r. ⌜ PutWith r (now (memory .exit)) (putByte size guard (lent (now (memory .entry)) address) byte) ⌝ }
 {

@@ -1,6 +1,7 @@
 -- SPDX-License-Identifier: Apache-2.0
 -- `companion::Registers::read` meets its contract. Each arm at its own address; the last is 0Eh, the only one left.
 -- Assumes nothing.
+use Prim.Native.Nat.{zero-le}
 use Rattle.companion.proofs.Cases.{is-last}
 use Rattle.companion.proofs.Registers.read.Statement.{statement}
 use Rattle.companion.proofs.Registers.read.Tie as tie
@@ -48,7 +49,7 @@ returns-14 : tie.Need-returns-14
 returns-14 c = rw (c .match .keys14)
 
 returns-15 : tie.Need-returns-15
-returns-15 c = rw (is-last 14 _ (c .match .rest) (c .before .pre))
+returns-15 c = rw (is-last 0 14 _ zero-le (c .match .rest) (c .before .pre))
 
 pub read-spec : {M : Type 1} → statement M
 read-spec =

@@ -21,14 +21,11 @@ top-and-below-requires-4 c κs = search needs
 top-and-below-requires-5 : tie.Need-top-and-below-requires-5
 top-and-below-requires-5 c κs = search needs
 
-top-and-below-requires-6 : tie.Need-top-and-below-requires-6
-top-and-below-requires-6 c κs = search needs
-
 returns : tie.Need-returns
 returns c = rw (c .match .keys1)
 
 returns-2 : tie.Need-returns-2
-returns-2 c = rw (c .before .match .keys2) (c .top-and-below .ensures)
+returns-2 c = rw (c .match .keys2)
 
 returns-3 : tie.Need-returns-3
 returns-3 c = rw (c .match .keys3)
@@ -46,28 +43,22 @@ returns-7 : tie.Need-returns-7
 returns-7 c = rw (c .match .keys7)
 
 returns-8 : tie.Need-returns-8
-returns-8 c = rw (c .match .keys8)
+returns-8 c = rw (c .before .match .keys8) (c .top-and-below .ensures)
 
 returns-9 : tie.Need-returns-9
-returns-9 c = rw (c .match .keys9)
+returns-9 c = rw (c .before .match .keys9) (c .top-and-below2 .ensures)
 
 returns-10 : tie.Need-returns-10
-returns-10 c = rw (c .before .match .keys10) (c .top-and-below2 .ensures)
+returns-10 c = rw (c .before .match .keys10) (c .top-and-below3 .ensures)
 
 returns-11 : tie.Need-returns-11
-returns-11 c = rw (c .before .match .keys11) (c .top-and-below3 .ensures)
+returns-11 c = rw (c .before .match .keys11) (c .top-and-below4 .ensures)
 
 returns-12 : tie.Need-returns-12
-returns-12 c = rw (c .before .match .keys12) (c .top-and-below4 .ensures)
+returns-12 c = rw (c .before .match .keys12) (c .top-and-below5 .ensures)
 
 returns-13 : tie.Need-returns-13
-returns-13 c = rw (c .before .match .keys13) (c .top-and-below5 .ensures)
-
-returns-14 : tie.Need-returns-14
-returns-14 c = rw (c .before .match .keys14) (c .top-and-below6 .ensures)
-
-returns-15 : tie.Need-returns-15
-returns-15 c = rw (is-last 14 _ (c .match .rest) (c .before .pre))
+returns-13 c = rw (is-last 2 12 _ (c .before .pre .0) (c .match .rest) (c .before .pre .1))
 
 pub stored-spec : {M : Type 1} → statement M
 stored-spec =
@@ -78,7 +69,6 @@ stored-spec =
     top-and-below-requires-3
     top-and-below-requires-4
     top-and-below-requires-5
-    top-and-below-requires-6
     returns
     returns-2
     returns-3
@@ -91,6 +81,4 @@ stored-spec =
     returns-10
     returns-11
     returns-12
-    returns-13
-    returns-14
-    returns-15)
+    returns-13)
