@@ -6,7 +6,7 @@ use Prim.Native.Nat.{ℕ}
 use mathlib.Core.Path.{_≡_, sym, _∙_}
 use mathlib.Core.List.{List}
 use denote.Ref.{RefT}
-use Rattle.rig.specs.Image.{DecodeSettled}
+use Rattle.rig.specs.Reading.{DecodeSettled}
 use Rattle.rig.specs.Run.{RunSettled}
 use Rattle.rig.specs.Fresh.{FreshSettled}
 use Rattle.rig.specs.View.{ViewNumberSettled, ViewSettled}
