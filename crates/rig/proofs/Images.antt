@@ -8,11 +8,12 @@ use mathlib.Core.Path.{_≡_, refl, sym, ap, _∙_}
 use mathlib.Core.Bool.{true, false, _&&_, and-false}
 use mathlib.Core.List.{List}
 use native.Mathlib.Omega.{arith}
-use lib.ListN.{length}
+use lib.ListN.{length, take}
 use Rattle.wire.specs.declared.Side.the-variants.{Memory, Companion}
 use Rattle.wire.specs.declared.Phase.{Phase}
 use Rattle.wire.specs.declared.Phase.the-variants.{Idle, Slave, AddressHigh, AddressLow, Pointer, Write, Read}
 use Rattle.wire.proofs.Tests.{by-test, and-split}
+use Rattle.companion.specs.Registers.{registerBytes}
 use Rattle.device.specs.Power.{fresh}
 use Rattle.device.specs.Limits.{wellFormed}
 use Rattle.device.specs.declared.Power.{Power}
@@ -29,6 +30,11 @@ use Rattle.rig.proofs.Lists.{same-lengths, same-self, same-equal}
 pub image-length : (s : State) → length (imageOf s) ≡ imageSize
 unfolding imageOf
 image-length s = refl
+
+-- "The image's first 15 bytes are registers 00h to 0Eh"
+pub image-registers : (s : State) → take 15 (imageOf s) ≡ registerBytes (s .companion .registers)
+unfolding imageOf
+image-registers s = refl
 
 power-of-number : (p : Power) → powerOf (powerNumber p) ≡ p
 unfolding powerOf
