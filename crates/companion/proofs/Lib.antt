@@ -5,6 +5,7 @@ pub mod Cases
 pub mod Address
 pub mod Bytes
 pub mod Fits
+pub mod Kept
 pub mod LimitFacts
 pub mod Within
 pub mod Shown

@@ -8,11 +8,12 @@ use mathlib.Core.Path.{_≡_, refl, sym, ap, _∙_}
 use mathlib.Core.Bool.{true, false, _&&_, and-false}
 use mathlib.Core.List.{List}
 use native.Mathlib.Omega.{arith}
-use lib.ListN.{length}
+use lib.ListN.{length, take}
 use Rattle.wire.specs.declared.Side.the-variants.{Memory, Companion}
 use Rattle.wire.specs.declared.Phase.{Phase}
 use Rattle.wire.specs.declared.Phase.the-variants.{Idle, Slave, AddressHigh, AddressLow, Pointer, Write, Read}
 use Rattle.wire.proofs.Tests.{by-test, and-split}
+use Rattle.companion.specs.Registers.{registerBytes}
 use Rattle.device.specs.Power.{fresh}
 use Rattle.device.specs.Limits.{wellFormed}
 use Rattle.device.specs.declared.Power.{Power}
@@ -20,7 +21,8 @@ use Rattle.device.specs.declared.Power.the-variants.{On, Backup, Off}
 use Rattle.device.specs.declared.State.{State}
 use Rattle.device.proofs.Wellformed.{fresh-well-formed}
 use Rattle.rig.specs.Layout.{powerNumber, powerOf, transferOf, phaseOf}
-use Rattle.rig.specs.Image.{imageSize, imageOf, calendarAt, candidate, sameBytes, decodeOf, DecodeSettled}
+use Rattle.rig.specs.Image.{imageSize, imageOf, calendarAt, candidate, sameBytes, decodeOf}
+use Rattle.rig.specs.Reading.{WrittenBy, DecodeSettled}
 use Rattle.rig.specs.declared.Decoded.{Decoded}
 use Rattle.rig.specs.declared.Decoded.the-variants.{Good, Bad}
 use Rattle.rig.proofs.Lists.{same-lengths, same-self, same-equal}
@@ -28,6 +30,11 @@ use Rattle.rig.proofs.Lists.{same-lengths, same-self, same-equal}
 pub image-length : (s : State) → length (imageOf s) ≡ imageSize
 unfolding imageOf
 image-length s = refl
+
+-- "The image's first 15 bytes are registers 00h to 0Eh"
+pub image-registers : (s : State) → take 15 (imageOf s) ≡ registerBytes (s .companion .registers)
+unfolding imageOf
+image-registers s = refl
 
 power-of-number : (p : Power) → powerOf (powerNumber p) ≡ p
 unfolding powerOf
@@ -86,7 +93,7 @@ good-not-bad : (s : State) → Good s ≡ Bad → ⊥
 good-not-bad s e = let z : _≡_ {A = ℕ} 0 1 = cc in omega arith
 
 -- an accepted image is that of a well-formed state, and is written back byte for byte
-pub image-decode : (i : List ℕ) (s : State) → decodeOf i ≡ Good s → (wellFormed s ≡ true) × (imageOf s ≡ i)
+pub image-decode : (i : List ℕ) (s : State) → decodeOf i ≡ Good s → WrittenBy i s
 unfolding decodeOf
 image-decode i s h = by-test (wellFormed (candidate i) && sameBytes (imageOf (candidate i)) i)
     (λ t.
@@ -100,8 +107,9 @@ pub decoded-length : (i : List ℕ) (s : State) → decodeOf i ≡ Good s → le
 decoded-length i s d = ap length (sym (image-decode i s d .1)) ∙ image-length s
 
 -- a refused image is written by no well-formed state
-pub image-refused : (i : List ℕ) → decodeOf i ≡ Bad → (s : State) → wellFormed s ≡ true → imageOf s ≡ i → ⊥
-image-refused i b s f e = let d : decodeOf i ≡ Good s = rw e at (decode-image s f) in good-not-bad s (sym d ∙ b)
+pub image-refused : (i : List ℕ) → decodeOf i ≡ Bad → (s : State) → WrittenBy i s → ⊥
+image-refused i b s w =
+    let d : decodeOf i ≡ Good s = rw (w .1) at (decode-image s (w .0)) in good-not-bad s (sym d ∙ b)
 
 -- the answer that is computed is the one that the words describe, and no other is
 pub decode-settled : (i : List ℕ) (r : Decoded) → decodeOf i ≡ r → DecodeSettled i r
@@ -113,4 +121,4 @@ settled-decode i (Good s) h = rw (h .1) at (decode-image s (h .0))
 settled-decode i Bad h = none (decodeOf i) refl where
   none : (d : Decoded) → decodeOf i ≡ d → d ≡ Bad
   none Bad e = refl
-  none (Good s) e = let w = image-decode i s e in absurd (h s (w .0) (w .1))
+  none (Good s) e = let w = image-decode i s e in absurd (h s w)

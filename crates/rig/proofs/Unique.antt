@@ -7,7 +7,8 @@ use mathlib.Core.Path.{_≡_, sym, _∙_}
 use mathlib.Core.List.{List}
 use denote.Ref.{RefT}
 use Rattle.device.specs.declared.State.{State}
-use Rattle.rig.specs.Image.{imageOf, DecodeSettled}
+use Rattle.rig.specs.Image.{imageOf}
+use Rattle.rig.specs.Reading.{DecodeSettled}
 use Rattle.rig.specs.Run.{RunSettled}
 use Rattle.rig.specs.Fresh.{FreshSettled}
 use Rattle.rig.specs.View.{ViewNumberSettled, ViewSettled}

@@ -3,11 +3,8 @@
 -- the rest is the team's layout, in docs/. Image and state go both ways without loss."). docs/IMAGE.md has the table.
 --   imageSize, mark, imageOf          the 64 bytes that a state writes
 --   candidate, sameBytes, decodeOf    the state that an image holds, if a well-formed state writes it
---   decodedNumber                     01's number for each answer to reading an image
---   DecodeSettled                     what each answer says of the image: the contract of `decode`
 -- Assumes nothing.
 use Prim.Native.Nat.{ℕ, _+_, _*_, _/_, _%_}
-use mathlib.Core.Path.{_≡_}
 use mathlib.Core.Bool.{Bool, true, false, cond, _&&_}
 use mathlib.Core.List.{List, [], _∷_, _++_}
 use lib.Dec.{eqb}
@@ -15,7 +12,6 @@ use lib.ListN.{getD, replicate}
 use Rattle.calendar.specs.declared.Calendar.{Calendar}
 use Rattle.companion.specs.Registers.{registerBytes, registersOf}
 use Rattle.companion.specs.declared.Companion.{Companion}
-use Rattle.device.specs.Numbers.{accepted, wrongState}
 use Rattle.device.specs.Limits.{wellFormed}
 use Rattle.device.specs.declared.State.{State}
 use Rattle.rig.specs.Layout.{powerNumber, powerOf, transferOf, phaseOf}
@@ -84,13 +80,3 @@ sameBytes (x ∷ xs) (y ∷ ys) = eqb x y && sameBytes xs ys
 -- The state that an image holds: the candidate, if it is well-formed and writes this very image.
 unfoldable pub decodeOf : List ℕ → Decoded
 decodeOf i = cond (wellFormed (candidate i) && sameBytes (imageOf (candidate i)) i) (Good (candidate i)) Bad
-
--- 01's number for each answer; a refused image has "count 0, nothing written".
-abbrev pub decodedNumber : Decoded → ℕ
-decodedNumber (Good s) = accepted
-decodedNumber Bad = wrongState
-
--- "No well-formed state writes it", and its opposite, with the state.
-abbrev pub DecodeSettled : List ℕ → Decoded → Type 0
-DecodeSettled i (Good s) = (wellFormed s ≡ true) × (imageOf s ≡ i)
-DecodeSettled i Bad = (s : State) → wellFormed s ≡ true → imageOf s ≡ i → ⊥

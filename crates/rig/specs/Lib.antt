@@ -1,6 +1,7 @@
 -- SPDX-License-Identifier: Apache-2.0
 pub mod Layout
 pub mod Image
+pub mod Reading
 pub mod Run
 pub mod Calls
 pub mod Fresh

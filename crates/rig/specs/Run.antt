@@ -1,15 +1,13 @@
 -- SPDX-License-Identifier: Apache-2.0
 -- The list run (01, Entries: "A second entry runs a list of events"), refusals too. `RunSettled` is its whole outcome.
---   Ended, following, runOf   a list of events, one by one
---   RanThrough                the same, of what a function returns and leaves
---   allKnown                  every event byte is one of the eight
---   Outcome, outcomeOf        all that a caller can see of the entry
---   RunSettled                the entry's contract
+--   Ended, following, runOf         a list of events, one by one; RanThrough, of what a function returns and leaves
+--   allKnown, Outcome, outcomeOf    every event byte is one of the eight; all that a caller can see of the entry
 -- Assumes nothing.
 use Prim.Native.Nat.{ℕ}
 use mathlib.Core.Path.{_≡_}
 use mathlib.Core.Bool.{Bool, true, cond, _&&_}
 use mathlib.Core.List.{List, [], _∷_, _++_}
+use mathlib.Core.Option.{Option, some, none}
 use lib.Dec.{leb, eqb}
 use lib.ListN.{length, drop}
 use Rattle.device.specs.Numbers.{accepted, wrongMemory, unknownEvent, shortAnswers}
@@ -17,9 +15,8 @@ use Rattle.device.specs.Chip.{memorySize, Done}
 use Rattle.device.specs.Event.{eventOf}
 use Rattle.device.specs.Answer.{answerByte}
 use Rattle.device.specs.declared.State.{State}
-use Rattle.rig.specs.Image.{imageOf, decodeOf, decodedNumber}
-use Rattle.rig.specs.declared.Decoded.{Decoded}
-use Rattle.rig.specs.declared.Decoded.the-variants.{Good, Bad}
+use Rattle.rig.specs.Image.{imageOf, decodeOf}
+use Rattle.rig.specs.Reading.{decodedSays}
 use Rattle.rig.specs.declared.Ran.{Ran}
 
 -- What a list of events leaves: the state, the memory, and one answer an event.
@@ -80,17 +77,19 @@ written r es a =
       answers = answersOver r es a;
     }
 
--- "All events are tested before the first is done."
-abbrev pub onDecoded : Decoded → List ℕ → List ℕ → List ℕ → List ℕ → Outcome
-onDecoded Bad i m es a = refused (decodedNumber Bad) i m a
-onDecoded (Good s) i m es a =
+-- "All events are tested before the first is done", on what reading the image gave: its number, and its state, if any.
+abbrev pub onDecoded : ℕ → Option State → List ℕ → List ℕ → List ℕ → List ℕ → Outcome
+onDecoded n none i m es a = refused n i m a
+onDecoded n (some s) i m es a =
     cond (allKnown es)
     (cond (leb (length es) (length a)) (written (runOf s m es) es a) (refused shortAnswers i m a))
     (refused unknownEvent i m a)
 
 -- "Checked in the order of the numbers": image, memory, events and answers to the whole outcome.
 unfoldable pub outcomeOf : List ℕ → List ℕ → List ℕ → List ℕ → Outcome
-outcomeOf i m es a = cond (eqb (length m) memorySize) (onDecoded (decodeOf i) i m es a) (refused wrongMemory i m a)
+outcomeOf i m es a =
+    let read = decodedSays (decodeOf i) in
+    cond (eqb (length m) memorySize) (onDecoded (read .number) (read .returned) i m es a) (refused wrongMemory i m a)
 
 -- Auxiliary: what a call returned and left, as an outcome.
 abbrev pub outcomeWith : Ran → List ℕ → List ℕ → List ℕ → Outcome

@@ -10,7 +10,8 @@ use Prim.Native.Nat.{ℕ, _%_}
 use mathlib.Core.Bool.{Bool, true, false}
 use mathlib.Core.List.{List, [], _∷_, _++_, map}
 use lib.Dec.{eqb}
-use Rattle.wire.specs.Whole.{bitsOf, nineBits}
+use Rattle.wire.specs.HighFirst.{sentBits}
+use Rattle.wire.specs.Whole.{nineBits}
 
 -- "2 Clock with the master's data line low; 3 Clock with it high."
 abbrev pub clockEvent : Bool → ℕ
@@ -22,7 +23,7 @@ clocksOf ds = map clockEvent ds
 
 -- "Bits come high bit first."
 abbrev pub eightClocks : ℕ → List ℕ
-eightClocks b = clocksOf (bitsOf b)
+eightClocks b = clocksOf (sentBits b)
 
 -- "The ninth clock is the acknowledge"; there the master's line is d.
 abbrev pub nineClocks : ℕ → Bool → List ℕ

@@ -9,7 +9,8 @@ use mathlib.Core.Path.{_≡_}
 use mathlib.Core.Bool.{Bool}
 use mathlib.Core.List.{List}
 use lib.ListN.{getD}
-use Rattle.wire.specs.Whole.{bitsOf, eight, lower}
+use Rattle.wire.specs.HighFirst.{sentBits}
+use Rattle.wire.specs.Whole.{eight, lower}
 use Rattle.wire.specs.declared.Side.the-variants.{Memory, Companion}
 use Rattle.wire.specs.declared.Phase.the-variants.{Read}
 use Rattle.companion.specs.Registers.{registerBytes}
@@ -22,7 +23,7 @@ use Rattle.transfers.specs.Clocks.{clocksOf, linesOf}
 -- The Clocks with these lines of the master are answered by the bits of the byte, high bit first, each low too where the
 -- master pulls it low.
 abbrev pub Shows : State → List ℕ → List Bool → ℕ → Type 0
-Shows s m ds byte = linesOf (runOf s m (clocksOf ds) .answers) ≡ lower ds (bitsOf byte)
+Shows s m ds byte = linesOf (runOf s m (clocksOf ds) .answers) ≡ lower ds (sentBits byte)
 
 -- A byte from the memory: the one at the memory address, which then steps on, from 1FFFh to 0000h. All else stays.
 pub record SentFromMemory (s : State) (m : List ℕ) (ds : List Bool) : Type 0 where

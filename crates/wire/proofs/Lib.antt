@@ -1,8 +1,10 @@
 -- SPDX-License-Identifier: Apache-2.0
 pub mod Match
 pub mod Tests
+pub mod HighFirst
 pub mod Clock
 pub mod Cells
+pub mod Low
 pub mod Framing
 pub mod Whole
 pub mod Limits

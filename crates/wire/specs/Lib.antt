@@ -1,5 +1,6 @@
 -- SPDX-License-Identifier: Apache-2.0
 pub mod Bits
+pub mod HighFirst
 pub mod Slave
 pub mod Clock
 pub mod Kinds

@@ -1,6 +1,6 @@
 -- SPDX-License-Identifier: Apache-2.0
 -- Whole bytes on the wire, over any part (01, Transfers: "Bits come high bit first; the ninth clock is the acknowledge").
---   bitsOf, nineBits, eight   the bits of a byte; with its acknowledge; any eight
+--   nineBits, eight           the bits of a byte with its acknowledge; any eight bits
 --   Clocked, clocksOn         Clocks one after another, and the line of each
 --   lower                     the line, low if the master or the device pulls it low
 --   SendsMemory, SendsCompanion   what a byte that goes out shows: the statements
@@ -9,19 +9,14 @@ use Prim.Native.Nat.{ℕ}
 use mathlib.Core.Path.{_≡_}
 use mathlib.Core.Bool.{Bool, _&&_}
 use mathlib.Core.List.{List, [], _∷_, _++_}
-use Rattle.wire.specs.Bits.{sentBit}
+use Rattle.wire.specs.HighFirst.{sentBits}
 use Rattle.wire.specs.Machine.{Parts, clock, line, State, step}
 use Rattle.wire.specs.declared.Side.the-variants.{Memory, Companion}
 use Rattle.wire.specs.declared.Phase.the-variants.{Read}
 
--- The eight bits of a byte, high bit first.
-abbrev pub bitsOf : ℕ → List Bool
-bitsOf b =
-    sentBit 0 b ∷ sentBit 1 b ∷ sentBit 2 b ∷ sentBit 3 b ∷ sentBit 4 b ∷ sentBit 5 b ∷ sentBit 6 b ∷ sentBit 7 b ∷ []
-
 -- The nine lines of a byte: its bits, and the line at its acknowledge.
 abbrev pub nineBits : ℕ → Bool → List Bool
-nineBits b d = bitsOf b ++ (d ∷ [])
+nineBits b d = sentBits b ++ (d ∷ [])
 
 -- Auxiliary: any eight bits.
 abbrev pub eight : (d₀ d₁ d₂ d₃ d₄ d₅ d₆ d₇ : Bool) → List Bool
@@ -48,7 +43,7 @@ module _ (P : Parts) where
 
   -- Eight Clocks show the bits of the byte b, high bit first, where the master leaves the line high; and lead to a state.
   pub record Shows (s : State P) (ds : List Bool) (b : ℕ) (s′ : State P) : Type 0 where
-    pub lines : clocksOn s ds .lines ≡ lower ds (bitsOf b)
+    pub lines : clocksOn s ds .lines ≡ lower ds (sentBits b)
     pub state : clocksOn s ds .state ≡ s′
 
   -- "A read uses the current address. The byte is fixed at its first clock; the address steps on at the eighth."
