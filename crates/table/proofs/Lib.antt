@@ -1,7 +1,12 @@
 -- SPDX-License-Identifier: Apache-2.0
+pub mod Answers
+pub mod Single
 pub mod Events
 pub mod Stored
 pub mod Protected
 pub mod Throughout
+pub mod Addresses
+pub mod Unheard
+pub mod Eighth
 pub mod Table
 pub mod Entry

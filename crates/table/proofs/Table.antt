@@ -40,7 +40,15 @@ exact-run m buffer h b =
       answered = ap (λ (x : Outcome). x .answers) o ∙ ap (λ (l : List ℕ). exactAnswers ++ l) (drop-of-length-le buffer short);
     }
 
+-- one case after the other
+infixr 20 _also_
+_also_ : {A B : Type 0} → A → B → A × B
+_also_ a b = (a, b)
+
 pub table-holds : Table
 unfolding runOf happening eventOn clocked lined receivedAt placeAt pushed slaveNames answers opened kept putByte refusedByte aimOf pinOf lostOf nextOf isValid inField stepOf monthLength Companions.tickOf Calendars.tickOf
 table-holds m h =
-    ((refl, refl), ((refl, refl), ((refl, refl), ((refl, refl), ((refl, refl), ((refl, refl), ((refl, refl), ((refl, refl), ((refl, refl), (refl, ((refl, refl), (refl, (refl, ((refl, refl), ((refl, refl), ((λ buffer b. exact-run m buffer h b), tt))))))))))))))))
+    (refl, refl) also (refl, refl) also (refl, refl) also (refl, refl) also (refl, refl) also (refl, refl) also (refl, refl)
+    also (refl, refl, refl) also (refl, refl, refl)
+    also (refl, refl) also (refl, refl) also refl also (refl, refl) also refl also refl
+    also (refl, refl) also (refl, refl) also (refl, refl) also (λ buffer b. exact-run m buffer h b) also tt

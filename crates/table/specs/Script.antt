@@ -1,7 +1,7 @@
 -- SPDX-License-Identifier: Apache-2.0
 -- The events that a master sends, from the bytes that it means, and the states that the table's cases start from. Auxiliary
 -- to Table.antt.
---   clocksOf, sent, memoryWrite   events               withSetup, running   states
+--   clocksOf, sent, memoryWrite   events               withSetup, running, alarmed   states
 -- Assumes nothing.
 use Prim.Native.Nat.{ℕ, _+_, _/_, _%_}
 use mathlib.Core.List.{List, [], _∷_, _++_}
@@ -51,3 +51,16 @@ withSetup setup =
 -- A device whose oscillator runs, with a calendar in its core and in 02h to 08h, and no flag set.
 abbrev pub running : Calendar → State
 running c = between (record { control = 0; trim = 0; time = c; alarm = lostRegisters .alarm; setup = 0 }) c
+
+-- The same with 00h as given and no alarm field selected: "with none selected, every second".
+abbrev pub alarmed : ℕ → Calendar → State
+alarmed control c =
+    between
+    (record {
+      control = control;
+      trim = 0;
+      time = c;
+      alarm = record { seconds = 0x80; minutes = 0x80; hours = 0x80; date = 0x80; month = 0x80 };
+      setup = 0;
+    })
+    c

@@ -5,23 +5,25 @@
 -- Assumes nothing.
 use Prim.Native.Nat.{ℕ, _%_}
 use mathlib.Core.Path.{_≡_}
-use mathlib.Core.Bool.{Bool, true, false}
+use mathlib.Core.Bool.{Bool, true, false, cond}
 use mathlib.Core.List.{List, [], _∷_, _++_}
 use lib.ListN.{length, set}
 use Rattle.calendar.specs.declared.Calendar.{Calendar}
 use Rattle.calendar.specs.Cases.{K1, K2, K3, K4, K5, K6, K7}
 use Rattle.calendar.specs.Cases as Calendars
-use Rattle.companion.specs.Map.{CF, has}
+use Rattle.companion.specs.Map.{AF, CF, has}
 use Rattle.device.specs.Chip.{memorySize}
 use Rattle.device.specs.Power.{fresh}
 use Rattle.device.specs.declared.State.{State}
 use Rattle.rig.specs.Image.{imageOf}
 use Rattle.rig.specs.Run.{runOf, outcomeOf}
-use Rattle.table.specs.Script.{clocksOf, sent, memoryWrite, companionWrite, withSetup, running}
+use Rattle.table.specs.Script.{clocksOf, sent, memoryWrite, companionWrite, withSetup, running, alarmed}
 
 pub data Case : Type 0 where
   -- a tick takes a running device's core from one calendar to another, and sets CF or not
   ticks : Calendars.Case → Case
+  -- a tick leaves the core as it is, and after it AF and CF are as said
+  stays : State → (af cf : Bool) → Case
   -- after these events the memory is as it was, and the line of the last one is high (true) or low
   refuses : State → List ℕ → Bool → Case
   -- after these events the memory has a byte at an address, is else as it was, and the memory address is as said
@@ -37,10 +39,6 @@ lastLine [] = 1
 lastLine (a ∷ []) = a % 2
 lastLine (a ∷ b ∷ l) = lastLine (b ∷ l)
 
-abbrev pub lineBit : Bool → ℕ
-lineBit true = 1
-lineBit false = 0
-
 -- The list run: its number, its count and its answers, in a buffer as long as the events.
 pub record Gives (m es told buffer : List ℕ) : Type 0 where
   pub number : outcomeOf (imageOf fresh) m es buffer .number ≡ 0
@@ -49,11 +47,14 @@ pub record Gives (m es told buffer : List ℕ) : Type 0 where
 
 abbrev pub Holds : Case → List ℕ → Type 0
 Holds (ticks k) m =
-    (runOf (running (k .from)) m (4 ∷ []) .state .companion .core ≡ k .to)
-    × (has (runOf (running (k .from)) m (4 ∷ []) .state .companion .registers .control) CF ≡ k .century)
-Holds (refuses s es line) m = (runOf s m es .memory ≡ m) × (lastLine (runOf s m es .answers) ≡ lineBit line)
+    let c = runOf (running (k .from)) m (4 ∷ []) .state .companion in
+    (c .core ≡ k .to) × (has (c .registers .control) CF ≡ k .century)
+Holds (stays s af cf) m =
+    let c = runOf s m (4 ∷ []) .state .companion in
+    (c .core ≡ s .companion .core) × (has (c .registers .control) AF ≡ af) × (has (c .registers .control) CF ≡ cf)
+Holds (refuses s es line) m = (runOf s m es .memory ≡ m) × (lastLine (runOf s m es .answers) ≡ cond line 1 0)
 Holds (stores s es at byte then) m = (runOf s m es .memory ≡ set m at byte) × (runOf s m es .state .address ≡ then)
-Holds (lines s es line) m = lastLine (runOf s m es .answers) ≡ lineBit line
+Holds (lines s es line) m = lastLine (runOf s m es .answers) ≡ cond line 1 0
 Holds (answers es told) m = (buffer : List ℕ) → length buffer ≡ length es → Gives m es told buffer
 
 abbrev pub AllHold : List Case → List ℕ → Type 0
@@ -72,6 +73,8 @@ exactAnswers = 5 ∷ 5 ∷ 4 ∷ 5 ∷ 4 ∷ 4 ∷ 4 ∷ 4 ∷ 4 ∷ 4 ∷ 5 ∷
 abbrev pub table : List Case
 table =
     ticks K1 ∷ ticks K2 ∷ ticks K3 ∷ ticks K4 ∷ ticks K5 ∷ ticks K6 ∷ ticks K7
+    -- K7 31/04 stays: AF and CF too, though with no alarm field selected every advance would set AF
+    ∷ stays (alarmed 0x00 (K7 .from)) false false ∷ stays (alarmed 0x60 (K7 .from)) true true
     -- K8 WP 01: 07FFh refused, 0800h stored
     ∷ refuses (withSetup 0x08) (memoryWrite 0x07 0xFF ++ sent 0x5A) true
     ∷ stores (withSetup 0x08) (memoryWrite 0x08 0x00 ++ sent 0x5A) 0x0800 0x5A 0x0801
@@ -81,8 +84,9 @@ table =
     -- K10 companion address 0Eh acknowledged, 0Fh not
     ∷ lines fresh (companionWrite ++ sent 0x0E) false
     ∷ lines fresh (companionWrite ++ sent 0x0F) true
-    -- K11 seven data clocks then Stop: old byte; eight then power lost: new byte
+    -- K11 seven data clocks then Stop: old byte; eight then power lost, with backup or without: new byte
     ∷ refuses fresh (memoryWrite 0x00 0x05 ++ (3 ∷ 3 ∷ 3 ∷ 3 ∷ 3 ∷ 3 ∷ 3 ∷ 1 ∷ [])) true
+    ∷ stores fresh (memoryWrite 0x00 0x05 ++ (clocksOf 0xFF ++ (5 ∷ []))) 0x0005 0xFF 0x0000
     ∷ stores fresh (memoryWrite 0x00 0x05 ++ (clocksOf 0xFF ++ (6 ∷ []))) 0x0005 0xFF 0x0000
     -- K12 the exact run
     ∷ answers exactEvents exactAnswers

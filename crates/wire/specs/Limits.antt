@@ -16,7 +16,8 @@ use Rattle.wire.specs.declared.Phase.the-variants.{Idle, Slave, AddressH
 unfoldable pub bitsFit : ℕ → ℕ → Bool
 bitsFit k b = leb k 8 && ltb b (2 ^ k)
 
--- A whole byte that waits for its acknowledge is one that is acknowledged; a byte that goes out is 0 before its first clock.
+-- A slave byte or a companion address that waits for its acknowledge is one that is acknowledged; a byte that goes out is 0
+-- before its first clock.
 unfoldable pub phaseWithin : (ℕ → Named) → (ℕ → Bool) → Phase → Bool
 phaseWithin names legal Idle = true
 phaseWithin names legal (Slave k b) = bitsFit k b && cond (eqb k 8) (answers (names b)) true
