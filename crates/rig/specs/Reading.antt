@@ -1,6 +1,7 @@
 -- SPDX-License-Identifier: Apache-2.0
--- What each answer to reading an image says (01, Entries and refusal numbers; and, at its end: "If an answer is an enum, a
--- definition lists this paper's number and values for each of its cases, and the promises use that definition").
+-- What each answer to reading an image says (01, Entries and refusal numbers; and, at its end: "If an answer is an
+-- enum, a definition lists this paper's number and values for each of its cases, and the promises use that
+-- definition").
 --   WrittenBy                  a well-formed state writes an image
 --   Says, decodedSays          each answer's line of 01's table: its number, when it is given, what is returned
 --   DecodeSettled              the contract of `decode`

@@ -1,7 +1,7 @@
 -- SPDX-License-Identifier: Apache-2.0
--- Event bytes and answer bytes. An answer is twice the pin's number, of three bits, and the line: so each bit can be read
--- off. A Clock at which the master pulls the line low is low by the machine's own law; the other events leave it high under
--- every supply.
+-- Event bytes and answer bytes. An answer is twice the pin's number, of three bits, and the line: so each bit can be
+-- read off. A Clock at which the master pulls the line low is low by the machine's own law; the other events leave it
+-- high under every supply.
 -- Assumes nothing.
 use Prim.Native.Nat.{ℕ, _+_, _*_, _/_, _%_, _<_, _≤_}
 use mathlib.Core.Path.{_≡_, refl, subst}
@@ -74,7 +74,8 @@ answer-by On q a c line =
 answer-by Backup q a c line =
     let b = pin-bits c line in record { bit0 = b .low; bits21 = b .middle; bit3 = b .top; bits74 = b .small }
 answer-by Off q a c line =
-    let b = bits 0 false line (omega arith) in record { bit0 = b .low; bits21 = b .middle; bit3 = b .top; bits74 = b .small }
+    let b = bits 0 false line (omega arith) in
+    record { bit0 = b .low; bits21 = b .middle; bit3 = b .top; bits74 = b .small }
 
 pub every-answer : EveryAnswer
 every-answer s line = answer-by (s .power) (s .phase) (s .address) (s .companion) line
@@ -100,7 +101,8 @@ no-clock : (e : ℕ) → (e ≡ 2 → ⊥) → (e ≡ 3 → ⊥) → NoClock (ha
 unfolding happening
 no-clock e low high =
     by-cond NoClock (eqb e 0) (λ h. tt) (λ h. by-cond NoClock (eqb e 1) (λ h. tt)
-    (λ h. by-cond NoClock (eqb e 2) (λ h. low (eqb-true e 2 h)) (λ h. by-cond NoClock (eqb e 3) (λ h. high (eqb-true e 3 h))
+    (λ h. by-cond NoClock (eqb e 2) (λ h. low (eqb-true e 2 h))
+    (λ h. by-cond NoClock (eqb e 3) (λ h. high (eqb-true e 3 h))
     (λ h. by-cond NoClock (eqb e 4) (λ h. tt) (λ h. by-cond NoClock (eqb e 5) (λ h. tt)
     (λ h. by-cond NoClock (eqb e 6) (λ h. tt) (λ h. tt)))))))
 

@@ -1,7 +1,7 @@
 -- SPDX-License-Identifier: Apache-2.0
 -- A byte from the master at its eighth and ninth clocks. On main power a Clock is the machine's; at eight clocks its
--- definition computes, once the test that takes or refuses the byte is settled. A refused byte leaves no transfer, so its
--- ninth clock is not heard.
+-- definition computes, once the test that takes or refuses the byte is settled. A refused byte leaves no transfer, so
+-- its ninth clock is not heard.
 -- Assumes nothing.
 use Prim.Native.Nat.{ℕ}
 use mathlib.Core.Path.{_≡_, refl, ap, _∙_}
@@ -22,7 +22,8 @@ use Rattle.device.specs.Event.{eventOf}
 use Rattle.device.specs.declared.Power.the-variants.{On}
 use Rattle.device.specs.declared.State.{State}
 use Rattle.table.specs.Stored.{clockEvent}
-use Rattle.table.specs.Eighth.{live, NotAcknowledged, SlaveRefused, PointerTaken, PointerRefused, DataStored, DataRefused}
+use Rattle.table.specs.Eighth.{live, NotAcknowledged, SlaveRefused, PointerTaken, PointerRefused}
+use Rattle.table.specs.Eighth.{DataStored, DataRefused}
 use Rattle.table.proofs.Events.{clock-event}
 use Rattle.table.proofs.Unheard.{outside-unheard}
 
@@ -45,7 +46,12 @@ pub slave-refused : SlaveRefused
 unfolding clocked receivedAt placeAt kept slaveNames answers
 slave-refused s m b d on p w x y z =
     refused-by (in-phase s m d (Slave 7 b) on p
-    ∙ rw (ne-eqb (pushed b d) 0xA0 w, ne-eqb (pushed b d) 0xA1 x, ne-eqb (pushed b d) 0xD0 y, ne-eqb (pushed b d) 0xD1 z))
+    ∙ rw (
+      ne-eqb (pushed b d) 0xA0 w,
+      ne-eqb (pushed b d) 0xA1 x,
+      ne-eqb (pushed b d) 0xD0 y,
+      ne-eqb (pushed b d) 0xD1 z,
+    ))
 
 pub pointer-refused : PointerRefused
 unfolding clocked receivedAt placeAt kept aimOf

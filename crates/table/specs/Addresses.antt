@@ -17,8 +17,8 @@ use Rattle.table.specs.Protected.{Protected}
 abbrev pub UpperBitsIgnored : Type 0
 UpperBitsIgnored = (high low : ℕ) → low < 256 → joined memorySize high low ≡ high % 32 * 256 + low
 
--- "Protection by WP1 WP0 of 0Eh: 00 none; 01 0000h to 07FFh; 10 0000h to 0FFFh; 11 all": by WP1 WP0, bits 4 and 3 of 0Eh,
--- the first address that is free.
+-- "Protection by WP1 WP0 of 0Eh: 00 none; 01 0000h to 07FFh; 10 0000h to 0FFFh; 11 all": by WP1 WP0, bits 4 and 3 of
+-- 0Eh, the first address that is free.
 pub record ProtectedRanges : Type 0 where
   pub ends : map (protectedBelow memorySize) (0 ∷ 1 ∷ 2 ∷ 3 ∷ []) ≡ 0x0000 ∷ 0x0800 ∷ 0x1000 ∷ 0x2000 ∷ []
   pub bits : (s : State) (a : ℕ) → let setup = s .companion .registers .setup in

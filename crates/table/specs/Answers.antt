@@ -17,15 +17,15 @@ use Rattle.device.specs.Event.{onWire, second, lost, gone, returned, happening,
 use Rattle.device.specs.Answer.{answerByte}
 use Rattle.device.specs.declared.State.{State}
 
--- "0 Start; 1 Stop; 2 Clock with the master's data line low; 3 Clock with it high; 4 one-second tick; 5 main power lost,
--- backup present; 6 main power lost, no backup; 7 main power returned."
+-- "0 Start; 1 Stop; 2 Clock with the master's data line low; 3 Clock with it high; 4 one-second tick; 5 main power
+-- lost, backup present; 6 main power lost, no backup; 7 main power returned."
 abbrev pub EventBytes : Type 0
 EventBytes =
     map happening (0 ∷ 1 ∷ 2 ∷ 3 ∷ 4 ∷ 5 ∷ 6 ∷ 7 ∷ [])
     ≡ onWire start ∷ onWire stop ∷ onWire (clock false) ∷ onWire (clock true) ∷ second ∷ lost ∷ gone ∷ returned ∷ []
 
--- By CAL, AL/SW and AEN: "CAL = 1 gives calibration; CAL = 0 and AL/SW = 0 square wave; CAL = 0, AEN = 1, AL/SW = 1 alarm;
--- CAL = 0, AEN = 0, AL/SW = 1 released (ruling)", with "0 released, 1 alarm, 2 square wave, 3 calibration".
+-- By CAL, AL/SW and AEN: "CAL = 1 gives calibration; CAL = 0 and AL/SW = 0 square wave; CAL = 0, AEN = 1, AL/SW = 1
+-- alarm; CAL = 0, AEN = 0, AL/SW = 1 released (ruling)", with "0 released, 1 alarm, 2 square wave, 3 calibration".
 abbrev pub functionBy : Bool → Bool → Bool → ℕ
 functionBy true alsw aen = 3
 functionBy false false aen = 2
@@ -52,7 +52,8 @@ pub record AnswerBits (s : State) (line : Bool) : Type 0 where
 abbrev pub EveryAnswer : Type 0
 EveryAnswer = (s : State) (line : Bool) → AnswerBits s line
 
--- "For a Clock, low if the master or the device pulls it low; for other events 1." (What the device does is seen at event 3.)
+-- "For a Clock, low if the master or the device pulls it low; for other events 1." (What the device does is seen at
+-- event 3.)
 pub record LineBits : Type 0 where
   pub low : (s : State) (m : List ℕ) → eventOf s m 2 .line ≡ false
   pub other : (s : State) (m : List ℕ) (e : ℕ) → (e ≡ 2 → ⊥) → (e ≡ 3 → ⊥) → eventOf s m e .line ≡ true

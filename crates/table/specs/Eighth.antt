@@ -26,8 +26,8 @@ use Rattle.table.specs.Protected.{Protected}
 abbrev pub live : Phase → ℕ → Companion → State
 live p a c = record { power = On; phase = p; address = a; companion = c }
 
--- "Not acknowledged, transfer ended": already at the eighth clock. Memory and companion are as they were, the memory address
--- is as said; the ninth clock, outside a transfer, has the master's line.
+-- "Not acknowledged, transfer ended": already at the eighth clock. Memory and companion are as they were, the memory
+-- address is as said; the ninth clock, outside a transfer, has the master's line.
 pub record NotAcknowledged (s : State) (m : List ℕ) (d : Bool) (a : ℕ) : Type 0 where
   pub eighth : eventOf s m (clockEvent d) ≡ record { state = live Idle a (s .companion); memory = m; line = d }
   pub ninth : (high : Bool) → eventOf (live Idle a (s .companion)) m (clockEvent high) .line ≡ high
@@ -37,7 +37,7 @@ pub record Acknowledged (s : State) (m : List ℕ) (d : Bool) (s′ : State) (m�
   pub eighth : eventOf s m (clockEvent d) ≡ record { state = s′; memory = m′; line = d }
   pub ninth : Pulls s′ m′
 
--- Where seven clocks of a byte are done, their bits are b, and the eighth has the data line d: the byte is `pushed b d`.
+-- Seven clocks of a byte are done, with the bits b; the eighth has the data line d, so the byte is `pushed b d`.
 abbrev pub AtEighth : (ℕ → Phase) → (State → List ℕ → Bool → ℕ → Type 0) → Type 0
 AtEighth phase X =
     (s : State) (m : List ℕ) (b : ℕ) (d : Bool) → s .power ≡ On → s .phase ≡ phase b → X s m d (pushed b d)
@@ -69,7 +69,8 @@ DataStored =
 abbrev pub addressAfterRefused : ℕ → ℕ
 addressAfterRefused a = a
 
--- "A data byte to a protected address is not acknowledged, changes nothing, the address stays, and the transfer ends (ruling)."
+-- "A data byte to a protected address is not acknowledged, changes nothing, the address stays, and the transfer ends
+-- (ruling)."
 abbrev pub DataRefused : Type 0
 DataRefused =
     AtEighth (Write Memory 7)

@@ -8,7 +8,6 @@ use mathlib.Core.Path.{_≡_}
 use mathlib.Core.Bool.{Bool, true, false, cond}
 use mathlib.Core.List.{List, [], _∷_, _++_}
 use lib.ListN.{length, set}
-use Rattle.calendar.specs.declared.Calendar.{Calendar}
 use Rattle.calendar.specs.Cases.{K1, K2, K3, K4, K5, K6, K7}
 use Rattle.calendar.specs.Cases as Calendars
 use Rattle.companion.specs.Map.{AF, CF, has}

@@ -23,8 +23,8 @@ mastersBit e = not (eqb e 2)
 abbrev pub unchanged : State → List ℕ → Bool → Done
 unchanged s m line = record { state = s; memory = m; line = line }
 
--- 01, Ticks, alarm, power: "While off, bus events do nothing and a Clock's line is the master's." Events 0 to 3, on backup
--- and with no supply.
+-- 01, Ticks, alarm, power: "While off, bus events do nothing and a Clock's line is the master's." Events 0 to 3, on
+-- backup and with no supply.
 abbrev pub OffUnheard : Type 0
 OffUnheard =
     (s : State) (m : List ℕ) (e : ℕ) → (s .power ≡ On → ⊥) → e < 4 → eventOf s m e ≡ unchanged s m (mastersBit e)

@@ -1,13 +1,14 @@
 -- SPDX-License-Identifier: Apache-2.0
--- Where the master pulls the line of a Clock low it is low, whatever the device does: so it is in every place of a byte that
--- comes in and of one that goes out, hence in every phase. Over any part.
+-- Where the master pulls the line of a Clock low it is low, whatever the device does: so it is in every place of a byte
+-- that comes in and of one that goes out, hence in every phase. Over any part.
 -- Assumes nothing.
 use Prim.Native.Nat.{ℕ}
 use mathlib.Core.Path.{_≡_, refl}
 use mathlib.Core.Bool.{false}
 use Rattle.wire.specs.Bits.{Place, first, within, last, ack, placeAt}
 use Rattle.wire.specs.Clock.{Receiver, receivedAt, Sender, sentAt}
-use Rattle.wire.specs.Kinds.{slaveByte, highByte, lowByte, memoryByte, memoryRead, pointerByte, companionByte, companionRead}
+use Rattle.wire.specs.Kinds.{slaveByte, highByte, lowByte, memoryByte, memoryRead}
+use Rattle.wire.specs.Kinds.{pointerByte, companionByte, companionRead}
 use Rattle.wire.specs.Machine.{Parts, clocked}
 use Rattle.wire.specs.declared.Side.the-variants.{Memory, Companion}
 use Rattle.wire.specs.declared.Phase.{Phase}

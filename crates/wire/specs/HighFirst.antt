@@ -26,8 +26,8 @@ abbrev pub worth : List Bool → ℕ
 worth [] = 0
 worth (d ∷ ds) = cond d (2 ^ length ds) 0 + worth ds
 
--- "Bits come high bit first": eight bits that came make the byte that they are worth; the eight bits of a byte that goes out
--- are worth that byte.
+-- "Bits come high bit first": eight bits that came make the byte that they are worth; the eight bits of a byte that
+-- goes out are worth that byte.
 pub record HighFirst : Type 0 where
   pub received : (ds : List Bool) → length ds ≡ 8 → pushedAll 0 ds ≡ worth ds
   pub sent : (b : ℕ) → b < 256 → worth (sentBits b) ≡ b
