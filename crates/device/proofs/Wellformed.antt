@@ -39,7 +39,8 @@ record CellsOk (m : Cells) : Type 0 where
 put-ok : (g : ℕ) (m : Cells) (b : ℕ) → b < 256 → CellsOk m → CellsOk (putByte memorySize g m b .next)
 unfolding putByte refusedByte
 put-ok g m b h o =
-    by-test (isProtected memorySize g (m .address)) (λ e. rw e o)
+    by-test (isProtected memorySize g (m .address))
+    (λ e. rw e (record { bytes = o .bytes; address = mod-lt (m .address + 1) (omega arith) }))
     (λ e. rw e
     (record { bytes = length-set (m .bytes) (m .address) b ∙ o .bytes; address = mod-lt (m .address + 1) (omega arith) }))
 

@@ -141,8 +141,8 @@ byte-stored s m es w d start r h pulls =
     let l = early r 0 refl m s a g
     (record { on = start .power; phase = start .phase; address = refl; guard = refl }) in
     by-test (isProtected memorySize g a)
-    (λ e. let q : Held (after s m es) Idle a g = rw e at (l .state) in
-    absurd (false≢true (sym pulls ∙ quiet (after s m es) (memoryAfter s m es) a g q)))
+    (λ e. let q : Held (after s m es) Idle (next memorySize a) g = rw e at (l .state) in
+    absurd (false≢true (sym pulls ∙ quiet (after s m es) (memoryAfter s m es) (next memorySize a) g q)))
     (λ e. let q : Held (after s m es) (Write Memory 8 w) (next memorySize a) g = rw e at (l .state) in
     let p : memoryAfter s m es ≡ set m a w = rw e at (l .memory) in
     let n = ninth (after s m es) (memoryAfter s m es) d w (next memorySize a) g q ∙ p in

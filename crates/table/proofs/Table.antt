@@ -50,5 +50,5 @@ unfolding runOf happening eventOn clocked lined receivedAt placeAt pushed slaveN
 table-holds m h =
     (refl, refl) also (refl, refl) also (refl, refl) also (refl, refl) also (refl, refl) also (refl, refl) also (refl, refl)
     also (refl, refl, refl) also (refl, refl, refl)
-    also (refl, refl) also (refl, refl) also refl also (refl, refl) also refl also refl
+    also (refl, refl, refl) also (refl, refl) also refl also (refl, refl) also refl also refl
     also (refl, refl) also (refl, refl) also (refl, refl) also (λ buffer b. exact-run m buffer h b) also tt

@@ -65,12 +65,12 @@ DataStored =
     (λ s m d w. Protected s (s .address) ≡ false
     → Acknowledged s m d (live (Write Memory 8 w) ((s .address + 1) % 8192) (s .companion)) (set m (s .address) w))
 
--- "The address stays": the memory address after a refused data byte.
+-- 02, number 3: "a refused data byte steps the address too, from 1FFFh to 0000h".
 abbrev pub addressAfterRefused : ℕ → ℕ
-addressAfterRefused a = a
+addressAfterRefused a = (a + 1) % 8192
 
--- "A data byte to a protected address is not acknowledged, changes nothing, the address stays, and the transfer ends
--- (ruling)."
+-- "A data byte to a protected address is not acknowledged .. and the transfer ends (ruling)"; 02, number 3: it "still changes no
+-- memory".
 abbrev pub DataRefused : Type 0
 DataRefused =
     AtEighth (Write Memory 7)

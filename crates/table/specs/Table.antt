@@ -25,6 +25,8 @@ pub data Case : Type 0 where
   stays : State → (af cf : Bool) → Case
   -- after these events the memory is as it was, and the line of the last one is high (true) or low
   refuses : State → List ℕ → Bool → Case
+  -- the same, and the memory address is as said
+  refusesAt : State → List ℕ → Bool → (then : ℕ) → Case
   -- after these events the memory has a byte at an address, is else as it was, and the memory address is as said
   stores : State → List ℕ → (at byte then : ℕ) → Case
   -- the line of the last event, at which the master leaves it high, is high (true) or low
@@ -52,6 +54,8 @@ Holds (stays s af cf) m =
     let c = runOf s m (4 ∷ []) .state .companion in
     (c .core ≡ s .companion .core) × (has (c .registers .control) AF ≡ af) × (has (c .registers .control) CF ≡ cf)
 Holds (refuses s es line) m = (runOf s m es .memory ≡ m) × (lastLine (runOf s m es .answers) ≡ cond line 1 0)
+Holds (refusesAt s es line then) m =
+    (runOf s m es .memory ≡ m) × (lastLine (runOf s m es .answers) ≡ cond line 1 0) × (runOf s m es .state .address ≡ then)
 Holds (stores s es at byte then) m = (runOf s m es .memory ≡ set m at byte) × (runOf s m es .state .address ≡ then)
 Holds (lines s es line) m = lastLine (runOf s m es .answers) ≡ cond line 1 0
 Holds (answers es told) m = (buffer : List ℕ) → length buffer ≡ length es → Gives m es told buffer
@@ -74,8 +78,8 @@ table =
     ticks K1 ∷ ticks K2 ∷ ticks K3 ∷ ticks K4 ∷ ticks K5 ∷ ticks K6 ∷ ticks K7
     -- K7 31/04 stays: AF and CF too, though with no alarm field selected every advance would set AF
     ∷ stays (alarmed 0x00 (K7 .from)) false false ∷ stays (alarmed 0x60 (K7 .from)) true true
-    -- K8 WP 01: 07FFh refused, 0800h stored
-    ∷ refuses (withSetup 0x08) (memoryWrite 0x07 0xFF ++ sent 0x5A) true
+    -- K8 WP 01: 07FFh refused, and the address after it is 0800h (02, number 3); 0800h stored
+    ∷ refusesAt (withSetup 0x08) (memoryWrite 0x07 0xFF ++ sent 0x5A) true 0x0800
     ∷ stores (withSetup 0x08) (memoryWrite 0x08 0x00 ++ sent 0x5A) 0x0800 0x5A 0x0801
     ∷ lines (withSetup 0x08) (memoryWrite 0x08 0x00 ++ sent 0x5A) false
     -- K9 a write at 1FFFh leaves address 0000h

@@ -81,8 +81,8 @@ written-on-the-wire s m high low byte d on length-m h l w =
     let a = addressOf high low in
     let opens = write-opens s m high low on h l in
     by-test (isProtected memorySize (guardOf c) a)
-    (λ e. let r = leads-then opens (data-left c m a byte d e) in refused e (r .memory) (ap lastLine (r .lines)))
+    (λ e. let r = leads-then opens (data-left c m a byte d e) in refused e (r .memory) (ap lastLine (r .lines)) (ap (λ (z : State). z .address) (r .state)))
     (λ e. let r = leads-then opens (data-stored c m a byte d w e) in
     let in-range : a < length m = rw length-m (mod-lt (high * 256 + low) (omega arith)) in
     stored e (r .memory) (ap (λ (x : List ℕ). getD x a 0) (r .memory) ∙ getD-set-same m a byte 0 in-range)
-    (ap lastLine (r .lines)))
+    (ap lastLine (r .lines)) (ap (λ (z : State). z .address) (r .state)))

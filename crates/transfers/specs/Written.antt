@@ -27,13 +27,15 @@ abbrev pub addressOf : ℕ → ℕ → ℕ
 addressOf high low = (high * 256 + low) % 8192
 
 -- Stored at its address, all else in memory as it was, and the ninth line pulled low whatever the master does there; or the
--- address is protected, memory is as it was, and the ninth line is the master's.
+-- address is protected, memory is as it was, and the ninth line is the master's. Either way the address has stepped on, "from
+-- 1FFFh to 0000h" (02, number 3).
 pub data Written (s : State) (m : List ℕ) (a byte : ℕ) (d : Bool) (r : Ended) : Type 0 where
   stored : isProtected memorySize (guardOf (s .companion)) a ≡ false
       → r .memory ≡ set m a byte → getD (r .memory) a 0 ≡ byte → lastLine (linesOf (r .answers)) ≡ false
-      → Written s m a byte d r
+      → r .state .address ≡ (a + 1) % 8192 → Written s m a byte d r
   refused : isProtected memorySize (guardOf (s .companion)) a ≡ true
-      → r .memory ≡ m → lastLine (linesOf (r .answers)) ≡ d → Written s m a byte d r
+      → r .memory ≡ m → lastLine (linesOf (r .answers)) ≡ d
+      → r .state .address ≡ (a + 1) % 8192 → Written s m a byte d r
 
 -- Of every state on main power, whatever its phase, every protection, address and byte.
 abbrev pub WrittenOnTheWire : Type 0

@@ -38,9 +38,10 @@ isProtected size wp a = ltb a (protectedBelow size wp)
 abbrev pub pointed : ℕ → Cells → ℕ → ℕ → Cells
 pointed size m high low = lent (m .bytes) (joined size high low)
 
--- "A data byte to a protected address is not acknowledged, changes nothing, the address stays (ruling)."
+-- 01: "A data byte to a protected address is not acknowledged"; 02, number 3: "a refused data byte steps the address too, from
+-- 1FFFh to 0000h, and still changes no memory".
 unfoldable pub refusedByte : ℕ → Cells → Taken Cells
-refusedByte size m = record { next = m; good = false }
+refusedByte size m = record { next = lent (m .bytes) (next size (m .address)); good = false }
 
 -- "A data byte is stored at its eighth clock, and then the address steps on."
 unfoldable pub putByte : ℕ → ℕ → Cells → ℕ → Taken Cells

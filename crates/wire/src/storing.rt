@@ -35,23 +35,25 @@ fn is_protected(size: u16, guard: u8, address: u16) -> bool
     address < protected_below(size, guard)
 }
 
-// What a refused data byte leaves: the address as it was.
-fn refuse(address: u16) -> Put
-    ensures { λ r. ⌜ ((size : ℕ) (m : List ℕ) → PutWith r m (refusedByte size (lent m address))) ⌝ }
+// What a refused data byte leaves: the bytes as they were, and the address one on, as after any data byte.
+fn refuse(size: u16, address: u16) -> Put
+    requires { ⌜ address < size ⌝ }
+    ensures { λ r. ⌜ ((m : List ℕ) → PutWith r m (refusedByte size (lent m address))) ⌝ }
 {
+    let next = next_address(size, address);
     Put {
-        address: address,
+        address: next,
         acknowledged: false,
     }
 }
 
-// A whole data byte for the memory: stored, and the address steps on; or refused, where the address is protected.
+// A whole data byte for the memory: stored, or refused where the address is protected; either way the address steps on.
 fn put(memory: &mut [u8], size: u16, guard: u8, address: u16, byte: u8) -> Put
     requires { ⌜ (length (now memory) ≡ size) × (address < size) ⌝ }
     ensures { λ r. ⌜ PutWith r (now (memory .exit)) (putByte size guard (lent (now (memory .entry)) address) byte) ⌝ }
 {
     if is_protected(size, guard, address) {
-        return refuse(address);
+        return refuse(size, address);
     }
     let at = address as usize;
     memory[at] = byte;

@@ -15,7 +15,7 @@ refuse-requires c κs = search needs
 
 returns : tie.Need-returns
 unfolding putByte
-returns c = rw (sym (c .before .before .is-protected .ensures) ∙ c .before .if1 .taken) (c .refuse .ensures _ _)
+returns c = rw (sym (c .before .before .is-protected .ensures) ∙ c .before .if1 .taken) (c .refuse .ensures _)
 
 slice-write-memory : tie.Need-slice-write-memory
 slice-write-memory c = search needs
