@@ -306,15 +306,18 @@ impl Device {
     }
 
     /// "A data byte is stored at its eighth clock, and then the address steps
-    /// on." "A data byte to a protected address is not acknowledged, changes
-    /// nothing, the address stays, and the transfer ends (ruling)."
+    /// on." "A data byte to a protected address is not acknowledged, ... and the
+    /// transfer ends (ruling)." 02, number 3: "a refused data byte steps the
+    /// address too, from 1FFFh to 0000h, and still changes no memory."
     fn memory_data_complete(&mut self, byte: u8) {
-        if registers::is_protected(&self.registers, self.memory_address) {
-            self.end_transfer();
-            return;
+        let refused = registers::is_protected(&self.registers, self.memory_address);
+        if !refused {
+            self.memory[usize::from(self.memory_address)] = byte;
         }
-        self.memory[usize::from(self.memory_address)] = byte;
         self.step_address(LogicalDevice::Memory);
+        if refused {
+            self.end_transfer();
+        }
     }
 
     /// "A data byte is stored at its eighth clock, and then the address steps

@@ -1,10 +1,11 @@
 // SPDX-License-Identifier: Apache-2.0
 //! The second program: a plain model of one FM3130.
 //!
-//! It was written from two documents alone: the rules (01, whose rulings
-//! decide first) and the data sheet (000). No other program about the part was
-//! read. Comments quote the sentence of 01 that a rule comes from; the places
-//! where 01 left a choice are numbered in `READINGS.md`.
+//! It was written from documents alone: the rules (01, whose rulings decide
+//! first), the customers' requests (02) and the data sheet (000). No other
+//! program about the part was read. Comments quote the sentence of 01 or 02
+//! that a rule comes from; the places where they left a choice are numbered in
+//! `READINGS.md`.
 //!
 //! * [`calendar`]: the seven calendar bytes and the next second.
 //! * [`registers`]: the 15 registers, what a write stores, ticks, the alarm.

@@ -132,19 +132,22 @@ fn other_calendar_cases() -> Vec<Case> {
     ]
 }
 
-/// K8.
+/// K8; the address after the refused byte is that of 02, number 3.
 fn protection_case() -> Case {
     let mut device = Device::fresh();
     // WP1 is bit 4 and WP0 bit 3 of 0Eh; WP = 01.
     host::companion_write(&mut device, 0x0E, &[0x08]);
     let refused = !host::memory_write(&mut device, 0x07FF, &[0x5A])[3];
+    let address = device.memory_address;
     let accepted = host::memory_write(&mut device, 0x0800, &[0xA5])[3];
     Case {
         name: "K8",
-        sentence: "WP 01: 07FFh refused, 0800h stored",
-        expected: "07FFh refused true holds 00h, 0800h accepted true holds A5h".to_string(),
+        sentence: "WP 01: 07FFh refused, address then 0800h, 0800h stored",
+        expected: "07FFh refused true holds 00h, address 0800h, 0800h accepted true holds A5h"
+            .to_string(),
         found: format!(
-            "07FFh refused {refused} holds {:02X}h, 0800h accepted {accepted} holds {:02X}h",
+            "07FFh refused {refused} holds {:02X}h, address {address:04X}h, \
+             0800h accepted {accepted} holds {:02X}h",
             device.memory[0x07FF], device.memory[0x0800]
         ),
     }

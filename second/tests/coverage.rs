@@ -21,7 +21,7 @@ fn structured_lists_reach_everything_required() {
 
 #[test]
 fn random_lists_reach_everything_required() {
-    let facts = facts_of(&generate::random(1, 1_500_000));
+    let facts = facts_of(&generate::random(1, 2_500_000));
     assert_eq!(missing(&facts, &required_facts()), []);
 }
 

@@ -5,7 +5,7 @@ use second::generate::{self, fill_memory, List, RandomSource, Script};
 use std::collections::{BTreeMap, BTreeSet};
 
 /// Family, number of lists, number of events of `exhaustive()`.
-const EXHAUSTIVE_EVENTS: [(&str, usize, usize); 21] = [
+const EXHAUSTIVE_EVENTS: [(&str, usize, usize); 23] = [
     ("address-wraps", 246, 149_820),
     ("alarm-field-values", 5, 89_340),
     ("alarm-matches", 32, 112_608),
@@ -13,6 +13,7 @@ const EXHAUSTIVE_EVENTS: [(&str, usize, usize); 21] = [
     ("companion-addresses", 256, 19_712),
     ("control-writes", 16, 595_392),
     ("cuts", 2325, 500_295),
+    ("data-byte-cuts", 960, 88_800),
     ("flag-races", 88, 37_628),
     ("flags-kept", 8, 558_080),
     ("insertions", 930, 200_844),
@@ -21,6 +22,7 @@ const EXHAUSTIVE_EVENTS: [(&str, usize, usize); 21] = [
     ("pairs-of-events", 3520, 479_680),
     ("pin-functions", 32, 6000),
     ("power-sequences", 1024, 361_472),
+    ("reading-on", 384, 46_584),
     ("register-values", 60, 1_060_556),
     ("rollovers", 15, 68_244),
     ("slave-bytes", 512, 73_216),
@@ -29,9 +31,9 @@ const EXHAUSTIVE_EVENTS: [(&str, usize, usize); 21] = [
     ("write-protection", 256, 213_248),
 ];
 
-const EXHAUSTIVE_TOTAL: usize = 5_802_329;
+const EXHAUSTIVE_TOTAL: usize = 5_937_713;
 
-const STRUCTURED_FAMILIES: [&str; 19] = [
+const STRUCTURED_FAMILIES: [&str; 20] = [
     "alarms",
     "both-supplies-lost",
     "calendar-rollovers",
@@ -46,6 +48,7 @@ const STRUCTURED_FAMILIES: [&str; 19] = [
     "oscillator-stopped",
     "pin-combinations",
     "power-inside",
+    "reading-on-structured",
     "refused-bytes",
     "repeated-starts",
     "ticks-inside",
@@ -53,11 +56,12 @@ const STRUCTURED_FAMILIES: [&str; 19] = [
     "transactions",
 ];
 
-const RANDOM_FAMILIES: [&str; 6] = [
+const RANDOM_FAMILIES: [&str; 7] = [
     "calendar-traffic",
     "plausible-bytes",
     "plausible-traffic",
     "power-traffic",
+    "protected-traffic",
     "uniform-noise",
     "weighted-noise",
 ];

@@ -92,7 +92,8 @@ fn answers_keep_to_their_bits() {
 }
 
 /// Memory changes only at the eighth clock of a data byte for it, at the
-/// current address, which then steps on, and only where it is not protected.
+/// current address, and only where it is not protected. The address steps on
+/// there, protected or not.
 fn check_memory_change(before: &Snapshot, event: u8, device: &Device, old: &mut [u8]) {
     let address = usize::from(before.memory_address);
     let data_clock = matches!(event, 2 | 3)
@@ -105,13 +106,16 @@ fn check_memory_change(before: &Snapshot, event: u8, device: &Device, old: &mut 
         2 => address < 0x1000,
         _ => true,
     };
+    if data_clock {
+        assert_eq!(usize::from(device.memory_address), (address + 1) % 8192);
+        assert_eq!(device.between_transfers(), protected);
+    }
     if data_clock && !protected {
         let mut byte = 0;
         for bit in &before.transfer.received_bits[..7] {
             byte = byte << 1 | u8::from(*bit);
         }
         old[address] = byte << 1 | (event - 2);
-        assert_eq!(usize::from(device.memory_address), (address + 1) % 8192);
     }
     assert_eq!(device.memory[address], old[address]);
 }

@@ -305,9 +305,7 @@ fn protected_addresses_refuse_data_bytes() {
             assert_eq!(acknowledged, [true, true, true, !is_protected]);
             let stored = device.memory[usize::from(address)];
             assert_eq!(stored, if is_protected { 0 } else { 0x66 });
-            let stepped = (address + 1) & 0x1FFF;
-            let expected = if is_protected { address } else { stepped };
-            assert_eq!(device.memory_address, expected);
+            assert_eq!(device.memory_address, (address + 1) & 0x1FFF);
         }
     }
 }
@@ -333,7 +331,8 @@ fn a_refused_data_byte_ends_the_transfer() {
     let acknowledged = host::send_byte(&mut device, 0x32);
     assert!(!acknowledged);
     assert_eq!(device.memory, vec![0; 8192]);
-    assert_eq!(device.memory_address, 0x0FFF);
+    // the first byte stepped the address, the second one came too late
+    assert_eq!(device.memory_address, 0x1000);
 }
 
 #[test]
@@ -342,8 +341,9 @@ fn protection_is_tested_for_each_data_byte() {
     host::companion_write(&mut device, 0x0E, &[0x08]);
     let acknowledged = host::memory_write(&mut device, 0x1FFE, &[1, 2, 3, 4]);
     assert_eq!(acknowledged, [true, true, true, true, true, false, false]);
-    assert_eq!(device.memory_address, 0x0000);
-    assert_eq!(device.memory[0x0000], 0x00);
+    assert_eq!(device.memory_address, 0x0001);
+    assert_eq!(device.memory[0x1FFE..], [1, 2]);
+    assert_eq!(device.memory[0x0000..0x0002], [0, 0]);
 }
 
 #[test]

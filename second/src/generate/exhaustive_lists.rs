@@ -1,7 +1,10 @@
 // SPDX-License-Identifier: Apache-2.0
 //! All exhaustive families together.
 
-use super::{exhaustive_bus, exhaustive_calendar, exhaustive_power, exhaustive_registers, List};
+use super::{
+    exhaustive_bus, exhaustive_calendar, exhaustive_power, exhaustive_refused,
+    exhaustive_registers, List,
+};
 
 /// The small exhaustive families; see the modules for what each tries.
 pub fn exhaustive() -> Vec<List> {
@@ -10,6 +13,8 @@ pub fn exhaustive() -> Vec<List> {
     lists.extend(exhaustive_bus::companion_addresses());
     lists.extend(exhaustive_bus::memory_address_bytes());
     lists.extend(exhaustive_bus::write_protection());
+    lists.extend(exhaustive_refused::reading_on());
+    lists.extend(exhaustive_refused::data_byte_cuts());
     lists.extend(exhaustive_bus::address_wraps());
     lists.extend(exhaustive_bus::cuts());
     lists.extend(exhaustive_bus::insertions());

@@ -15,6 +15,8 @@
 //! | companion-addresses | 256 | 19,712 | all 256 companion address bytes |
 //! | memory-address-bytes | 256 | 66,048 | all first and all second address bytes |
 //! | write-protection | 256 | 213,248 | all 256 bytes of 0Eh, addresses at each border |
+//! | reading-on | 384 | 46,584 | every WP and border, then reads that set no address |
+//! | data-byte-cuts | 960 | 88,800 | every WP and border, the data byte cut, then read on |
 //! | address-wraps | 246 | 149,820 | from 0Eh to 00h and from 1FFFh to 0000h |
 //! | cuts | 2,325 | 500,295 | every transaction cut after every clock |
 //! | insertions | 930 | 200,844 | a tick or event 7 after every clock |
@@ -32,12 +34,13 @@
 //! | power-sequences | 1,024 | 361,472 | all five events out of 4, 5, 6, 7 |
 //! | pin-functions | 32 | 6,000 | every AEN, CAL, AL/SW and AF |
 //! | ticks-everywhere | 48 | 27,072 | core, oscillator, W, R and power |
-//! | all | 9,758 | 5,802,329 | |
+//! | all | 11,102 | 5,937,713 | |
 
 mod exhaustive_bus;
 mod exhaustive_calendar;
 mod exhaustive_lists;
 mod exhaustive_power;
+mod exhaustive_refused;
 mod exhaustive_registers;
 mod random_lists;
 mod random_source;
@@ -46,6 +49,7 @@ mod structured_bus;
 mod structured_calendar;
 mod structured_companion;
 mod structured_lists;
+mod structured_refused;
 mod transactions;
 
 pub use exhaustive_lists::exhaustive;

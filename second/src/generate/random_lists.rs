@@ -4,9 +4,10 @@
 
 use super::random_source::RandomSource;
 use super::script::Script;
+use super::structured_refused::{something_between, write_at};
 use super::transactions::{
     doubtful_calendar, plausible_alarm, plausible_calendar, plausible_memory_address,
-    random_transactions,
+    random_transactions, PROTECTION_BORDERS,
 };
 use super::List;
 use crate::device::{CLOCK_HIGH, CLOCK_LOW, START, STOP, TICK};
@@ -21,12 +22,13 @@ pub fn random(seed: u64, approximate_events: usize) -> Vec<List> {
     let mut events = 0;
     while events < approximate_events {
         let number = lists.len();
-        let (family, script) = match number % 6 {
+        let (family, script) = match number % 7 {
             0 => ("uniform-noise", uniform_noise(&mut source)),
             1 => ("weighted-noise", weighted_noise(&mut source)),
             2 => ("plausible-bytes", plausible_bytes(&mut source)),
             3 => ("plausible-traffic", plausible_traffic(&mut source)),
             4 => ("calendar-traffic", calendar_traffic(&mut source)),
+            5 => ("protected-traffic", protected_traffic(&mut source)),
             _ => ("power-traffic", power_traffic(&mut source)),
         };
         let memory_seed = if source.chance(20) {
@@ -146,6 +148,26 @@ fn plausible_traffic(source: &mut RandomSource) -> Script {
         }
     }
     script.power_returned();
+    script
+}
+
+/// Writes to and over the borders of protection that changes now and then, and
+/// reads that set no address; disturbed.
+fn protected_traffic(source: &mut RandomSource) -> Script {
+    let mut script = Script::new();
+    while script.events.len() < EVENTS_OF_A_LIST {
+        let mut part = Script::new();
+        if source.chance(40) {
+            let protection = source.pick(&[0x00, 0x08, 0x10, 0x18]);
+            part.companion_write(0x0E, &[source.byte() & 0xE7 | protection]);
+        }
+        let border = source.pick(&PROTECTION_BORDERS);
+        write_at(source, &mut part, border);
+        something_between(source, &mut part);
+        part.memory_read_current(source.between(1, 3));
+        add_disturbed(source, &mut script, 4000, &part.events);
+        script.power_returned();
+    }
     script
 }
 

@@ -4,7 +4,7 @@
 use super::random_source::RandomSource;
 use super::script::Script;
 use super::transactions::{plausible_alarm, plausible_calendar, plausible_memory_address};
-use super::{structured_bus, structured_calendar, structured_companion, List};
+use super::{structured_bus, structured_calendar, structured_companion, structured_refused, List};
 
 /// Structured lists with about so many events in all. Every round makes lists
 /// of each family; within a round the families take turns, so that also a small
@@ -45,6 +45,7 @@ fn small_families(source: &mut RandomSource) -> Vec<Vec<List>> {
         structured_bus::transactions(source),
         structured_bus::repeated_starts(source),
         structured_bus::refused_bytes(source),
+        structured_refused::reading_on(source),
         structured_bus::master_low_while_device_sends(source),
         structured_bus::ninth_bits(source),
         structured_bus::memory_wraps(source),

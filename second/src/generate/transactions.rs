@@ -162,6 +162,9 @@ pub const BORDER_ADDRESSES: [u16; 12] = [
     0x0000, 0x0001, 0x07FE, 0x07FF, 0x0800, 0x0801, 0x0FFE, 0x0FFF, 0x1000, 0x1001, 0x1FFE, 0x1FFF,
 ];
 
+/// The last and the first addresses of the parts that protection tells apart.
+pub const PROTECTION_BORDERS: [u16; 6] = [0x07FF, 0x0800, 0x0FFF, 0x1000, 0x1FFF, 0x0000];
+
 /// A memory address, often near a border, sometimes with its upper three bits.
 pub fn plausible_memory_address(source: &mut RandomSource) -> u16 {
     let near_border = source.pick(&BORDER_ADDRESSES);

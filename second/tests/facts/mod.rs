@@ -46,6 +46,8 @@ pub enum Situation {
     PowerEvent,
     PowerLostAt,
     ProtectedByteRefused,
+    ReadOnAfterARefusedByte,
+    RefusedAtABorder,
     RegisterWritten,
     StartAt,
     StopAt,
@@ -53,11 +55,12 @@ pub enum Situation {
     TickAt,
     UnknownSlaveByte,
     UpperAddressBits,
+    WrapByARefusedByte,
     WrapByRead,
     WrapByWrite,
 }
 
-const SITUATIONS: usize = 46;
+const SITUATIONS: usize = 49;
 
 /// A situation and the number of its kind.
 pub type Fact = (Situation, u8);
@@ -116,11 +119,13 @@ pub fn facts_of(lists: &[List]) -> Facts {
     let mut facts = Facts::new();
     for list in lists {
         let mut device = list.device();
+        let mut refused_under = None;
         for event in &list.events {
             let before = snapshot(&device);
             let answer = device.event(*event);
             let after = snapshot(&device);
             note(&mut facts, &before, *event, answer, &after, &device);
+            note_reading_on(&mut facts, &before, *event, &after, &mut refused_under);
         }
     }
     facts
@@ -147,6 +152,35 @@ fn note(
         2 | 3 => note_clock(facts, before, event == 3, answer & 1 == 1, after),
         4 => note_tick(facts, before, after),
         _ => note_power(facts, before, event, after),
+    }
+}
+
+/// A memory read that begins while the address is still where a refused byte
+/// left it; `refused_under` is the protection that refused the byte.
+fn note_reading_on(
+    facts: &mut Facts,
+    before: &Snapshot,
+    event: u8,
+    after: &Snapshot,
+    refused_under: &mut Option<u8>,
+) {
+    let is_clock = matches!(event, 2 | 3) && before.power == Power::On;
+    let place = (before.transfer.phase, before.transfer.clocks);
+    let refused = after.transfer.phase == Phase::BetweenTransfers;
+    match place {
+        (Phase::WriteData(LogicalDevice::Memory), 7) if is_clock && refused => {
+            *refused_under = Some(before.registers[0x0E] >> 3 & 3);
+        }
+        (Phase::ReadData(LogicalDevice::Memory), 0) if is_clock => {
+            if let Some(protection) = *refused_under {
+                facts.insert((Situation::ReadOnAfterARefusedByte, protection));
+            }
+        }
+        _ => {
+            if before.memory_address != after.memory_address {
+                *refused_under = None;
+            }
+        }
     }
 }
 
@@ -234,6 +268,8 @@ fn note_received_byte(facts: &mut Facts, before: &Snapshot, master: bool, after:
             facts.insert((Situation::CompanionAddressRefused, 0))
         }
         Phase::WriteData(LogicalDevice::Memory) if refused => {
+            note_wrap(facts, before, after, Situation::WrapByARefusedByte);
+            note_border(facts, before.memory_address, protection);
             facts.insert((Situation::ProtectedByteRefused, protection))
         }
         Phase::WriteData(LogicalDevice::Memory) => {
@@ -247,6 +283,15 @@ fn note_received_byte(facts: &mut Facts, before: &Snapshot, master: bool, after:
         }
         Phase::MemoryAddressHighByte => facts.insert((Situation::UpperAddressBits, byte >> 5)),
         _ => {}
+    }
+}
+
+/// The borders of the protected parts, from the lowest address on.
+const BORDERS: [u16; 6] = [0x0000, 0x07FF, 0x0800, 0x0FFF, 0x1000, 0x1FFF];
+
+fn note_border(facts: &mut Facts, address: u16, protection: u8) {
+    if let Some(index) = BORDERS.iter().position(|border| *border == address) {
+        facts.insert((Situation::RefusedAtABorder, protection * 8 + index as u8));
     }
 }
 
@@ -389,6 +434,10 @@ pub fn required_facts() -> Vec<Fact> {
     want(Situation::UnknownSlaveByte, &[0]);
     want(Situation::CompanionAddressRefused, &[0]);
     want(Situation::ProtectedByteRefused, &[1, 2, 3]);
+    want(Situation::ReadOnAfterARefusedByte, &[1, 2, 3]);
+    want(Situation::RefusedAtABorder, &[8, 9, 16, 17, 18, 19]);
+    want(Situation::RefusedAtABorder, &[24, 25, 26, 27, 28, 29]);
+    want(Situation::WrapByARefusedByte, &[0]);
     want(Situation::MemoryByteStoredUnderProtection, &[0, 1, 2]);
     want(Situation::UpperAddressBits, &[0, 7]);
     want(Situation::ChangeOfWAndR, &(0..16).collect::<Vec<u8>>());
