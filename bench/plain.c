@@ -191,11 +191,10 @@ static uint8_t phase_after_slave_byte(uint8_t byte)
 
 static void put_into_memory(struct plain_device *device, uint8_t *memory, uint8_t byte)
 {
-    if (device->memory_address < protected_below[device->registers[SETUP] >> 3 & 3]) {
+    if (device->memory_address < protected_below[device->registers[SETUP] >> 3 & 3])
         begin_byte(device, IDLE);
-        return;
-    }
-    memory[device->memory_address] = byte;
+    else
+        memory[device->memory_address] = byte;
     step_memory_address(device);
 }
 

@@ -115,8 +115,13 @@ static void print_meaning(const struct story *story, int is_taken) {
                 register_name(byte));
         break;
     case PHASE_WRITE_MEMORY:
-        fprintf(out, "memory %04Xh: %s", story->address,
-                is_taken ? "stored" : "protected, not stored");
+        fprintf(out, "memory %04Xh: ", story->address);
+        if (is_taken) {
+            fputs("stored", out);
+        } else {
+            fprintf(out, "protected, not stored; the address goes on to %04Xh",
+                    device_memory_address(story->device));
+        }
         break;
     case PHASE_READ_MEMORY:
         fprintf(out, "memory %04Xh", story->address);

@@ -263,9 +263,9 @@ impl Device {
         let guard = usize::from(self.registers[SETUP] >> 3 & 3);
         if self.memory_address < PROTECTED_BELOW[guard] {
             self.begin_byte(Phase::Idle);
-            return;
+        } else {
+            memory[usize::from(self.memory_address & LAST_ADDRESS)] = byte;
         }
-        memory[usize::from(self.memory_address & LAST_ADDRESS)] = byte;
         self.step_memory_address();
     }
 

@@ -99,12 +99,15 @@ fn companion_address(byte: u8) -> Meaning {
     }
 }
 
-/// A refused byte has ended the transfer by its eighth clock.
+/// A refused byte has ended the transfer by its eighth clock; the address steps on all the same.
 fn memory_write(first: &State, eighth: &State) -> Meaning {
     let address = first.memory_address;
     if eighth.phase == Phase::Idle {
+        let next = eighth.memory_address;
         Meaning::new(
-            format!("memory {address:04X}h: protected, not stored"),
+            format!(
+                "memory {address:04X}h: protected, not stored; the address goes on to {next:04X}h"
+            ),
             format!("{address:04X}h protected"),
         )
     } else {
