@@ -12,7 +12,7 @@ use Rattle.companion.specs.Registers.{registerAt, putAt, storedAt}
 use Rattle.companion.specs.Change.{withRegisters}
 use Rattle.companion.specs.Write.{writtenOf, byteStored}
 use Rattle.companion.specs.Limits.{registersWithin}
-use Rattle.companion.specs.Part.{storeOf, isWithin}
+use Rattle.companion.specs.Part.{steppedOf, storeOf, isWithin}
 use Rattle.companion.proofs.Bytes.{put-same}
 
 -- nothing gates a write past the calendar
@@ -24,19 +24,26 @@ written-past c b h =
       lt-leb (c .address) YEARS h,
     )
 
+-- nor is a byte for it refused
+stored-past : (c : Companion) (b : ℕ) → YEARS < c .address → storeOf c b .companion ≡ steppedOf (writtenOf c b)
+unfolding storeOf
+stored-past c b h = rw (ne-eqb (c .address) CONTROL (λ e. omega arith))
+
 module _ (c : Companion) (b : ℕ) where
   -- the register holds what it stores of the byte
   pub store-kept : YEARS < c .address → c .address ≤ LAST
       → registerAt (storeOf c b .companion .registers) (c .address) ≡ storedAt (c .address) b
-  unfolding storeOf
   store-kept h l =
-      ap (λ (d : Companion). registerAt (d .registers) (c .address)) (written-past c b h)
+      ap (λ (d : Companion). registerAt (d .registers) (c .address)) (stored-past c b h)
+      ∙ ap (λ (d : Companion). registerAt (d .registers) (c .address)) (written-past c b h)
       ∙ put-same (c .registers) (c .address) (storedAt (c .address) b) (omega arith)
 
   -- "All eight bits of 0Eh are stored"
   pub setup-kept : c .address ≡ LAST → storeOf c b .companion .registers .setup ≡ b
-  unfolding storeOf
-  setup-kept e = ap (λ (d : Companion). d .registers .setup) (written-past c b (omega arith)) ∙ rw e
+  setup-kept e =
+      let h : YEARS < c .address = omega arith in
+      ap (λ (d : Companion). d .registers .setup) (stored-past c b h)
+      ∙ ap (λ (d : Companion). d .registers .setup) (written-past c b h) ∙ rw e
 
   -- "and none counts as fixed at 0 (ruling)"
   pub setup-free : isWithin (withRegisters c (putAt (c .registers) LAST b)) ≡ isWithin c

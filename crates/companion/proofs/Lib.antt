@@ -8,4 +8,5 @@ pub mod Fits
 pub mod Kept
 pub mod LimitFacts
 pub mod Within
+pub mod Valid
 pub mod Shown

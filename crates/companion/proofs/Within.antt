@@ -26,7 +26,7 @@ use Rattle.companion.specs.Tick.{countedOf}
 use Rattle.companion.specs.Limits.{fixedClear, alarmWithin, registersWithin}
 use Rattle.companion.specs.Registers.{putAt}
 use Rattle.companion.specs.Power.{porSet}
-use Rattle.companion.specs.Part.{nextAddress, steppedOf, controlRead, aimOf, storeOf, loadedOf}
+use Rattle.companion.specs.Part.{nextAddress, steppedOf, controlRead, aimOf, loadsBadDate, storeOf, loadedOf}
 use Rattle.companion.specs.Part.{tickOf, backedOf, lostOf, returnedOf, isWithin}
 use Rattle.companion.proofs.Cases.{by-cond}
 use Rattle.companion.proofs.LimitFacts.{RegistersWithin, Within, within-facts, within-test}
@@ -126,7 +126,10 @@ aim-within c h b =
 
 pub store-within : (c : Companion) → isWithin c ≡ true → (b : ℕ) → isWithin (storeOf c b .companion) ≡ true
 unfolding storeOf
-store-within c h b = stepped-within (writtenOf c b) (written-within c b (within-facts c h))
+store-within c h b =
+    let w = within-facts c h in
+    by-cond (λ (t : Taken). isWithin (t .companion) ≡ true) (loadsBadDate c b) (λ e. stepped-within c w)
+    (λ e. stepped-within (writtenOf c b) (written-within c b w))
 
 pub loaded-within : (c : Companion) → isWithin c ≡ true → (b : ℕ) → isWithin (loadedOf c b) ≡ true
 unfolding loadedOf

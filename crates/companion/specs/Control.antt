@@ -2,7 +2,7 @@
 -- Register 00h: what a write leaves of it, of the core and of 02h to 08h, and what a read clears (01, Registers).
 --   flagged control af cf         00h with AF and CF as said
 --   controlAfter, flagsAfter      00h after a write; after a read
---   coreAfter                     the core after a write: where W falls
+--   wFalls, coreAfter             W falls in a write; the core after a write: where W falls
 --   frozen, followed              02h to 08h where R rises; where R and W are 0
 --   timeAfter                     02h to 08h after a write: the two in their order
 -- Assumes nothing.
@@ -24,9 +24,13 @@ controlAfter old b =
 abbrev pub flagsAfter : ℕ → ℕ → ℕ
 flagsAfter control b = flagged control (has control AF && not (has b AF)) (has control CF && not (has b CF))
 
+-- 01, Registers: "W falls": it is 1, and the byte's bit is 0.
+abbrev pub wFalls : ℕ → ℕ → Bool
+wFalls old b = has old W && not (has b W)
+
 -- 01, Registers (ruling): "if W falls, the core takes 02h to 08h".
 abbrev pub coreAfter : ℕ → ℕ → Calendar → Calendar → Calendar
-coreAfter old b core time = cond (has old W && not (has b W)) time core
+coreAfter old b core time = cond (wFalls old b) time core
 
 -- 01, Registers (ruling): "then if R rises, 02h to 08h take the core".
 abbrev pub frozen : ℕ → ℕ → Calendar → Calendar → Calendar

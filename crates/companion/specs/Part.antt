@@ -3,18 +3,20 @@
 -- other files, what a tick and the loss of power do, what the pin shows, what memory is protected, and the limits.
 --   nextAddress, steppedOf   the address after one; the companion there
 --   refusedAddress, aimOf    an address byte that is refused; an address byte
+--   loadsBadDate, refusedDate   a data byte that would load the core with no date; what it leaves
 --   storeOf                  a data byte at its eighth clock
 --   loadOf                   the byte that a read sends
 --   controlRead, loadedOf    what the end of a read of 00h leaves; of any read
 -- Assumes nothing.
 use Prim.Native.Nat.{ℕ, _+_, _%_}
-use mathlib.Core.Bool.{true, false, cond}
+use mathlib.Core.Bool.{Bool, true, false, cond, not, _&&_}
 use lib.Dec.{leb, eqb}
+use Rattle.calendar.specs.Next.{isValid}
 use Rattle.companion.specs.declared.Companion.{Companion}
 use Rattle.companion.specs.declared.Taken.{Taken}
 use Rattle.companion.specs.Map.{CONTROL, COUNT, LAST}
 use Rattle.companion.specs.Registers.{registerAt, putAt}
-use Rattle.companion.specs.Control.{flagsAfter}
+use Rattle.companion.specs.Control.{flagsAfter, wFalls}
 use Rattle.companion.specs.Change.{withRegisters, withAddress}
 use Rattle.companion.specs.Write.{writtenOf}
 unfoldable pub use Rattle.companion.specs.Tick.{tickOf}
@@ -38,10 +40,21 @@ refusedAddress c = record { companion = c; acknowledged = false }
 unfoldable pub aimOf : Companion → ℕ → Taken
 aimOf c b = cond (leb b LAST) (record { companion = withAddress c b; acknowledged = true }) (refusedAddress c)
 
+-- 02, number 6: "When a write of 00h would make W fall while 02h to 08h are not a valid calendar".
+abbrev pub loadsBadDate : Companion → ℕ → Bool
+loadsBadDate c b = eqb (c .address) CONTROL && wFalls (c .registers .control) b && not (isValid (c .registers .time))
+
+-- 02, number 6: "do not acknowledge it, leave 00h and the core alone .. The address steps on".
+abbrev pub refusedDate : Companion → Taken
+refusedDate c = record { companion = steppedOf c; acknowledged = false }
+
 -- 01, Transfers: "A data byte is stored at its eighth clock, and then the address steps on"; 01, Registers: a byte that
--- is not stored is acknowledged too.
+-- is not stored is acknowledged too; 02, number 6: a date that does not exist is refused "before any part of 01's order
+-- for that write".
 unfoldable pub storeOf : Companion → ℕ → Taken
-storeOf c b = record { companion = steppedOf (writtenOf c b); acknowledged = true }
+storeOf c b =
+    cond (loadsBadDate c b) (refusedDate c)
+    (record { companion = steppedOf (writtenOf c b); acknowledged = true })
 
 -- 01, Transfers: "A read uses the current address".
 unfoldable pub loadOf : Companion → ℕ

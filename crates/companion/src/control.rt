@@ -2,7 +2,7 @@
 // Register 00h: what a write leaves of it, of the core and of 02h to 08h, and what a read clears.
 ghost use mathlib.Core.Path.{_≡_};
 ghost use Rattle.companion.specs.Control.{flagged, controlAfter, flagsAfter};
-ghost use Rattle.companion.specs.Control.{coreAfter, frozen, followed, timeAfter};
+ghost use Rattle.companion.specs.Control.{wFalls, coreAfter, frozen, followed, timeAfter};
 use crate::map::AF;
 use crate::map::CF;
 use crate::map::LB;
@@ -39,11 +39,18 @@ pub(crate) fn flags_after(control: u8, byte: u8) -> u8
     flagged(control, af, cf)
 }
 
+// Whether W falls in a write of 00h.
+pub fn w_falls(old: u8, byte: u8) -> bool
+    ensures { λ r. ⌜ r ≡ wFalls old byte ⌝ }
+{
+    has(old, W) & !has(byte, W)
+}
+
 // The core after a write of 00h: where W falls it takes 02h to 08h.
 pub(crate) fn core_after(old: u8, byte: u8, core: Calendar, time: Calendar) -> Calendar
     ensures { λ r. ⌜ r ≡ coreAfter old byte core time ⌝ }
 {
-    if has(old, W) & !has(byte, W) {
+    if w_falls(old, byte) {
         return time;
     }
     core

@@ -4,10 +4,11 @@ ghost use mathlib.Core.Path.{_≡_};
 ghost use Prim.Native.Nat.{_≤_};
 ghost use Rattle.companion.specs.Map.{LAST};
 ghost use Rattle.companion.specs.Part.{nextAddress, steppedOf, refusedAddress, controlRead};
-ghost use Rattle.companion.specs.Part.{aimOf, storeOf, loadOf, loadedOf};
+ghost use Rattle.companion.specs.Part.{aimOf, loadsBadDate, refusedDate, storeOf, loadOf, loadedOf};
 use crate::Companion;
 use crate::Taken;
 use crate::control::flags_after;
+use crate::control::w_falls;
 use crate::map::CONTROL;
 use crate::map::COUNT;
 use crate::map::LAST;
@@ -53,11 +54,35 @@ impl Companion {
         self.refused_address()
     }
 
-    // A data byte at its eighth clock: written to the register at the address, and the address steps on.
+    // Whether a data byte is a write of 00h in which W falls while 02h to 08h hold no date and time that exist.
+    fn loads_bad_date(self, byte: u8) -> bool
+        ensures { λ r. ⌜ r ≡ loadsBadDate self byte ⌝ }
+    {
+        let registers = self.registers;
+        let time = registers.time;
+        (self.address == CONTROL) & w_falls(registers.control, byte) & !time.is_valid()
+    }
+
+    // What such a byte leaves: the address steps on, and nothing else changes.
+    fn refused_date(self) -> Taken
+        requires { ⌜ self .address ≤ 14 ⌝ }
+        ensures { λ r. ⌜ r ≡ refusedDate self ⌝ }
+    {
+        Taken {
+            companion: self.stepped(),
+            acknowledged: false,
+        }
+    }
+
+    // A data byte at its eighth clock: written to the register at the address, and the address steps on; or refused,
+    // where it would load the core with a date that does not exist.
     pub fn store(self, byte: u8) -> Taken
         requires { ⌜ self .address ≤ LAST ⌝ }
         ensures { λ r. ⌜ r ≡ storeOf self byte ⌝ }
     {
+        if self.loads_bad_date(byte) {
+            return self.refused_date();
+        }
         let changed = self.written(byte);
         Taken {
             companion: changed.stepped(),

@@ -2,3 +2,4 @@
 pub mod Cases
 pub mod Entry
 pub mod Wellformed
+pub mod Valid

@@ -7,34 +7,16 @@ use Prim.Native.Nat.{ℕ}
 use mathlib.Core.Path.{_≡_, refl}
 use mathlib.Core.Bool.{Bool}
 use mathlib.Core.List.{List, [], _∷_}
-use Rattle.wire.specs.Bits.{Place, first, within, last, ack, placeAt, pushed}
-use Rattle.wire.specs.Clock.{Receiver, receivedAt, Sender, sentAt}
+use Rattle.wire.specs.Bits.{placeAt}
 use Rattle.wire.specs.Kinds.{pointerByte, companionRead}
 use Rattle.wire.specs.Machine.{Parts, start, stop, clock, line, tick, State, clocked, lined, stepped, step}
 use Rattle.wire.specs.declared.Side.the-variants.{Memory, Companion}
 use Rattle.wire.specs.declared.Phase.{Phase}
 use Rattle.wire.specs.declared.Phase.the-variants.{Idle, Slave, AddressHigh, AddressLow, Pointer, Write, Read}
+use Rattle.wire.proofs.Desk.{received-part, sent-part}
 use Rattle.isolation.specs.Party.{BusEvent}
 use Rattle.isolation.specs.Apart.{Steady}
 use Rattle.isolation.specs.Demand.{WhereWritten, IfWritten, OnlyWrites, WritesSteady}
-
--- a byte changes what it serves when it is taken, or when it has been sent, and not else
-module _ {A : Type 0} (X : A → Type 0) (a : A) (before : X a) where
-  received-part : (R : Receiver A) → ((b : ℕ) → X (R .take a b .next)) → (l : Place) (k b : ℕ) (d : Bool)
-      → X (receivedAt l R a k b d .part)
-  unfolding receivedAt
-  received-part R taken first k b d = before
-  received-part R taken within k b d = before
-  received-part R taken last k b d = taken (pushed b d)
-  received-part R taken ack k b d = before
-
-  sent-part : (S : Sender A) → ((b : ℕ) → X (S .done a b)) → (l : Place) (k b : ℕ) (d : Bool)
-      → X (sentAt l S a k b d .part)
-  unfolding sentAt
-  sent-part S done first k b d = before
-  sent-part S done within k b d = before
-  sent-part S done last k b d = done b
-  sent-part S done ack k b d = before
 
 module _ (P : Parts) (only : OnlyWrites P) where
   abbrev Keeps : P .Desk → P .Desk → Type 0

@@ -10,3 +10,4 @@ pub mod Unheard
 pub mod Eighth
 pub mod Table
 pub mod Entry
+pub mod Valid

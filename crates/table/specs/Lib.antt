@@ -10,3 +10,4 @@ pub mod Eighth
 pub mod Script
 pub mod Table
 pub mod Entry
+pub mod Valid

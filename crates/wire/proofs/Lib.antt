@@ -9,3 +9,4 @@ pub mod Framing
 pub mod Whole
 pub mod Limits
 pub mod Keeps
+pub mod Desk

@@ -1,21 +1,19 @@
 -- SPDX-License-Identifier: Apache-2.0
 -- `companion::control::core_after` meets its contract. The test that the code makes is the definition's.
 -- Assumes nothing.
+use mathlib.Core.Path.{sym, _∙_}
 use borrow.Author.Needs.{needs}
 use Rattle.companion.proofs.control.core_after.Statement.{statement}
 use Rattle.companion.proofs.control.core_after.Tie as tie
 
-has-requires : tie.Need-has-requires
-has-requires c κs = search needs
-
-has-requires-2 : tie.Need-has-requires-2
-has-requires-2 c κs = search needs
+w-falls-requires : tie.Need-w-falls-requires
+w-falls-requires c κs = search needs
 
 returns : tie.Need-returns
-returns c = rw (← c .before .before .has .ensures, ← c .before .has2 .ensures, c .if1 .taken)
+returns c = rw (sym (c .before .w-falls .ensures) ∙ c .if1 .taken)
 
 returns-2 : tie.Need-returns-2
-returns-2 c = rw (← c .before .before .has .ensures, ← c .before .has2 .ensures, c .if1 .left)
+returns-2 c = rw (sym (c .before .w-falls .ensures) ∙ c .if1 .left)
 
 pub core-after-spec : {M : Type 1} → statement M
-core-after-spec = tie.close (tie.spec has-requires has-requires-2 returns returns-2)
+core-after-spec = tie.close (tie.spec w-falls-requires returns returns-2)
