@@ -322,14 +322,18 @@ impl Device {
 
     /// "A data byte is stored at its eighth clock, and then the address steps
     /// on." It steps on also where the register keeps its bits (READINGS 4).
+    /// 02, number 6: of a refused byte of 00h "leave 00h and the core alone, and
+    /// end the transfer"; "The address steps on as in 3)."
     fn companion_data_complete(&mut self, byte: u8) {
-        registers::write_register(
-            &mut self.registers,
-            &mut self.core,
-            usize::from(self.companion_address),
-            byte,
-        );
+        let address = usize::from(self.companion_address);
+        let refused = registers::is_refused(&self.registers, address, byte);
+        if !refused {
+            registers::write_register(&mut self.registers, &mut self.core, address, byte);
+        }
         self.step_address(LogicalDevice::Companion);
+        if refused {
+            self.end_transfer();
+        }
     }
 
     /// "Memory goes from 1FFFh to 0000h; the companion from 0Eh to 00h

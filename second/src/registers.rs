@@ -149,7 +149,16 @@ fn calendar_registers_take_core(registers: &mut Registers, core: &Calendar) {
     registers[0x08] = core.year;
 }
 
-/// A data byte arrives for a register.
+/// 02, number 6: "When a write of 00h would make W fall while 02h to 08h are not
+/// a valid calendar, do not acknowledge it". The calendar is what 02h to 08h
+/// hold before any part of the write.
+pub fn is_refused(registers: &Registers, address: usize, byte: u8) -> bool {
+    let write_would_fall =
+        is_set(registers[CONTROL], WRITE_CALENDAR) && !is_set(byte, WRITE_CALENDAR);
+    address == CONTROL && write_would_fall && !calendar_registers(registers).is_valid()
+}
+
+/// A data byte arrives for a register that does not refuse it.
 pub fn write_register(registers: &mut Registers, core: &mut Calendar, address: usize, byte: u8) {
     match address {
         CONTROL => write_control(registers, core, byte),

@@ -1,5 +1,6 @@
 // SPDX-License-Identifier: Apache-2.0
-//! "The table to prove": K1 to K12, run over the bus of a fresh device.
+//! "The table to prove": K1 to K12, run over the bus of a fresh device; the
+//! core of K7 is handed in.
 
 use crate::calendar::{calendar_from_numbers, Calendar};
 use crate::device::Device;
@@ -40,6 +41,19 @@ pub fn cases() -> Vec<Case> {
 fn after_one_tick(calendar: Calendar) -> String {
     let mut device = Device::fresh();
     host::load_calendar(&mut device, calendar, 0x00);
+    tick_and_look(device)
+}
+
+/// The same for a calendar that the bus would not let in (02, number 6: "A core
+/// can then be invalid only by an image or state handed in").
+fn after_one_tick_handed_in(calendar: Calendar) -> String {
+    let mut device = Device::fresh();
+    host::companion_write(&mut device, 0x01, &[0x00]);
+    device.core = calendar;
+    tick_and_look(device)
+}
+
+fn tick_and_look(mut device: Device) -> String {
     host::tick(&mut device);
     let seen = host::read_calendar(&mut device);
     assert!(seen == device.core, "02h to 08h take the core");
@@ -73,6 +87,16 @@ fn calendar_case(
         sentence,
         expected: expected.to_string(),
         found: after_one_tick(before),
+    }
+}
+
+/// K7: the core is handed in.
+fn invalid_core_case() -> Case {
+    Case {
+        name: "K7",
+        sentence: "31/04 stays",
+        expected: "23:59:59 31/04/21 day 3 CF 0".to_string(),
+        found: after_one_tick_handed_in(calendar_from_numbers(LAST_SECOND, 3, (31, 4, 21))),
     }
 }
 
@@ -123,12 +147,7 @@ fn other_calendar_cases() -> Vec<Case> {
             calendar_from_numbers((19, 59, 59), 3, (15, 6, 21)),
             "20:00:00 15/06/21 day 3 CF 0",
         ),
-        calendar_case(
-            "K7",
-            "31/04 stays",
-            calendar_from_numbers(LAST_SECOND, 3, (31, 4, 21)),
-            "23:59:59 31/04/21 day 3 CF 0",
-        ),
+        invalid_core_case(),
     ]
 }
 

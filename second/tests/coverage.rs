@@ -4,7 +4,9 @@
 mod facts;
 mod snapshot;
 
-use facts::{facts_of, missing, required_facts, Situation};
+use facts::{
+    facts_of, facts_of_handed_in, missing, required_facts, ticks_with_an_invalid_core, Situation,
+};
 use second::generate::{self, List, Script};
 
 #[test]
@@ -23,6 +25,24 @@ fn structured_lists_reach_everything_required() {
 fn random_lists_reach_everything_required() {
     let facts = facts_of(&generate::random(1, 2_500_000));
     assert_eq!(missing(&facts, &required_facts()), []);
+}
+
+/// 02, number 6: "A core can then be invalid only by an image or state handed
+/// in."
+#[test]
+fn only_states_handed_in_reach_an_invalid_core() {
+    let required = ticks_with_an_invalid_core();
+    let handed_in = facts_of_handed_in(&generate::handed_in());
+    assert_eq!(missing(&handed_in, &required), []);
+    let by_chance = facts_of_handed_in(&generate::handed_in_random(1, 500_000));
+    assert_eq!(missing(&by_chance, &required), []);
+    for lists in [
+        generate::exhaustive(),
+        generate::structured(2, 1_000_000),
+        generate::random(2, 1_000_000),
+    ] {
+        assert_eq!(missing(&facts_of(&lists), &required), required);
+    }
 }
 
 #[test]

@@ -2,13 +2,18 @@
 //! The generators: families, counts, determinism, only real events.
 
 use second::generate::{self, fill_memory, List, RandomSource, Script};
+use second::registers::STORED_BITS;
 use std::collections::{BTreeMap, BTreeSet};
 
 /// Family, number of lists, number of events of `exhaustive()`.
-const EXHAUSTIVE_EVENTS: [(&str, usize, usize); 23] = [
+const EXHAUSTIVE_EVENTS: [(&str, usize, usize); 27] = [
     ("address-wraps", 246, 149_820),
     ("alarm-field-values", 5, 89_340),
     ("alarm-matches", 32, 112_608),
+    ("bad-date-bytes", 28, 732_928),
+    ("bad-date-controls", 1056, 564_960),
+    ("bad-date-cuts", 88, 46_720),
+    ("bad-date-rollovers", 660, 390_456),
     ("calendar-field-values", 28, 433_664),
     ("companion-addresses", 256, 19_712),
     ("control-writes", 16, 595_392),
@@ -31,10 +36,18 @@ const EXHAUSTIVE_EVENTS: [(&str, usize, usize); 23] = [
     ("write-protection", 256, 213_248),
 ];
 
-const EXHAUSTIVE_TOTAL: usize = 5_937_713;
+const EXHAUSTIVE_TOTAL: usize = 7_672_777;
 
-const STRUCTURED_FAMILIES: [&str; 20] = [
+/// The same for `handed_in()`.
+const HANDED_IN_EVENTS: [(&str, usize, usize); 3] = [
+    ("core-bytes", 680, 152_320),
+    ("core-samples", 792, 237_600),
+    ("register-samples", 528, 146_784),
+];
+
+const STRUCTURED_FAMILIES: [&str; 21] = [
     "alarms",
+    "bad-dates-structured",
     "both-supplies-lost",
     "calendar-rollovers",
     "companion-wraps",
@@ -97,7 +110,46 @@ fn exhaustive_families_have_the_written_counts() {
         .collect();
     assert_eq!(found, EXHAUSTIVE_EVENTS);
     assert_eq!(generate::count_events(&lists), EXHAUSTIVE_TOTAL);
-    assert!(generate::count_events(&lists) < 6_000_000);
+    assert!(generate::count_events(&lists) < 8_000_000);
+}
+
+#[test]
+fn handed_in_families_have_the_written_counts() {
+    let lists = generate::handed_in();
+    let mut counts: BTreeMap<&str, (usize, usize)> = BTreeMap::new();
+    let mut names = BTreeSet::new();
+    for list in &lists {
+        let count = counts.entry(list.family).or_insert((0, 0));
+        count.0 += 1;
+        count.1 += list.events.len();
+        assert!(list.events.iter().all(|event| *event <= 7));
+        assert!(names.insert((list.family, list.name.clone())));
+    }
+    let found: Vec<(&str, usize, usize)> = counts
+        .iter()
+        .map(|(family, count)| (*family, count.0, count.1))
+        .collect();
+    assert_eq!(found, HANDED_IN_EVENTS);
+    let total: usize = HANDED_IN_EVENTS.iter().map(|family| family.2).sum();
+    assert_eq!(generate::count_handed_in_events(&lists), total);
+}
+
+/// States handed in are between transfers and within the limits of 01.
+#[test]
+fn states_handed_in_are_within_the_limits() {
+    let mut lists = generate::handed_in();
+    lists.extend(generate::handed_in_random(9, 100_000));
+    for list in &lists {
+        let device = list.device();
+        assert!(device.between_transfers());
+        assert!(device.memory_address <= 0x1FFF && device.companion_address <= 0x0E);
+        for (register, stored) in device.registers.iter().zip(STORED_BITS) {
+            assert_eq!(register & !stored, 0, "{}", list.name);
+        }
+        for (byte, stored) in device.core.to_bytes().iter().zip(&STORED_BITS[2..=8]) {
+            assert_eq!(byte & !stored, 0, "{}", list.name);
+        }
+    }
 }
 
 #[test]
@@ -143,6 +195,11 @@ fn generators_are_deterministic() {
         generate::structured(5, 50_000)
     );
     assert_eq!(generate::random(5, 50_000), generate::random(5, 50_000));
+    assert_eq!(generate::handed_in(), generate::handed_in());
+    assert_eq!(
+        generate::handed_in_random(5, 50_000),
+        generate::handed_in_random(5, 50_000)
+    );
 }
 
 #[test]

@@ -271,19 +271,6 @@ fn every_change_of_w_and_r() {
 }
 
 #[test]
-fn an_invalid_calendar_is_loaded_as_it_is() {
-    let mut device = Device::fresh();
-    host::companion_write(&mut device, 0x00, &[0x02, 0x00]);
-    host::companion_write(&mut device, 0x02, &[0xFF; 7]);
-    host::companion_write(&mut device, 0x00, &[0x00]);
-    assert_eq!(
-        device.core.to_bytes(),
-        [0x7F, 0x7F, 0x3F, 0x07, 0x3F, 0x1F, 0xFF]
-    );
-    assert!(!device.core.is_valid());
-}
-
-#[test]
 fn w_and_r_written_in_one_transfer_with_the_calendar() {
     // 0Eh, then 00h, then 01h to 08h, then on to 0Eh and 00h again
     let mut device = Device::fresh();

@@ -2,8 +2,8 @@
 //! All exhaustive families together.
 
 use super::{
-    exhaustive_bus, exhaustive_calendar, exhaustive_power, exhaustive_refused,
-    exhaustive_registers, List,
+    exhaustive_bad_dates, exhaustive_bus, exhaustive_calendar, exhaustive_power,
+    exhaustive_refused, exhaustive_registers, List,
 };
 
 /// The small exhaustive families; see the modules for what each tries.
@@ -29,6 +29,10 @@ pub fn exhaustive() -> Vec<List> {
     lists.extend(exhaustive_calendar::field_values());
     lists.extend(exhaustive_calendar::alarm_field_values());
     lists.extend(exhaustive_calendar::alarm_match_combinations());
+    lists.extend(exhaustive_bad_dates::every_byte());
+    lists.extend(exhaustive_bad_dates::every_control());
+    lists.extend(exhaustive_bad_dates::rolled_over());
+    lists.extend(exhaustive_bad_dates::cuts());
     lists.extend(exhaustive_power::power_sequences());
     lists.extend(exhaustive_power::pin_functions());
     lists.extend(exhaustive_power::ticks_everywhere());

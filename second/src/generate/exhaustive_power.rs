@@ -56,8 +56,8 @@ pub fn pin_functions() -> Vec<List> {
     lists
 }
 
-/// Ticks with a valid and an invalid core, with the oscillator running and
-/// stopped, with every W and R, and with main power, on backup, without any
+/// Ticks after a calendar that goes in and one that does not, with the
+/// oscillator running and stopped, with every W and R, and with main power, on backup, without any
 /// supply and after power is back.
 pub fn ticks_everywhere() -> Vec<List> {
     let mut lists = Vec::new();

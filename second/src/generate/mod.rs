@@ -5,6 +5,8 @@
 //! * [`exhaustive`]: small families that try every value of something.
 //! * [`structured`]: transactions of every kind with chosen disturbances.
 //! * [`random`]: noise and plausible traffic by weights.
+//! * [`handed_in`] and [`handed_in_random`]: lists that begin in a state handed
+//!   in, so with an invalid core too, which no events bring about.
 //!
 //! What [`exhaustive`] holds; `tests/generators.rs` fails when the numbers are
 //! no longer true:
@@ -31,20 +33,38 @@
 //! | calendar-field-values | 28 | 433,664 | all 256 values of each calendar byte |
 //! | alarm-field-values | 5 | 89,340 | all 256 values of each alarm byte |
 //! | alarm-matches | 32 | 112,608 | every Match and every difference |
+//! | bad-date-bytes | 28 | 732,928 | all 256 values of each calendar byte, then W falls |
+//! | bad-date-controls | 1,056 | 564,960 | every kind of fault, every R, every byte of 00h |
+//! | bad-date-rollovers | 660 | 390,456 | 00h reached by rolling over from 0Eh |
+//! | bad-date-cuts | 88 | 46,720 | the byte of 00h cut after every clock |
 //! | power-sequences | 1,024 | 361,472 | all five events out of 4, 5, 6, 7 |
 //! | pin-functions | 32 | 6,000 | every AEN, CAL, AL/SW and AF |
 //! | ticks-everywhere | 48 | 27,072 | core, oscillator, W, R and power |
-//! | all | 11,102 | 5,937,713 | |
+//! | all | 12,934 | 7,672,777 | |
+//!
+//! What [`handed_in`] holds:
+//!
+//! | family | lists | events | what it tries |
+//! |---|---|---|---|
+//! | core-bytes | 680 | 152,320 | every byte that each field of the core can hold |
+//! | core-samples | 792 | 237,600 | every kind of fault with W, R, oscillator, supply |
+//! | register-samples | 528 | 146,784 | every kind of fault in 02h to 08h, W and R |
+//! | all | 2,000 | 536,704 | |
 
+mod exhaustive_bad_dates;
 mod exhaustive_bus;
 mod exhaustive_calendar;
 mod exhaustive_lists;
 mod exhaustive_power;
 mod exhaustive_refused;
 mod exhaustive_registers;
+mod handed_in_lists;
 mod random_lists;
 mod random_source;
+mod sample_calendars;
 mod script;
+mod starting_state;
+mod structured_bad_dates;
 mod structured_bus;
 mod structured_calendar;
 mod structured_companion;
@@ -53,9 +73,12 @@ mod structured_refused;
 mod transactions;
 
 pub use exhaustive_lists::exhaustive;
+pub use handed_in_lists::{count_handed_in_events, handed_in, handed_in_random, HandedInList};
 pub use random_lists::random;
 pub use random_source::RandomSource;
+pub use sample_calendars::{invalid_calendars, valid_calendars};
 pub use script::Script;
+pub use starting_state::{any_state, StartingState};
 pub use structured_lists::structured;
 
 use crate::device::Device;

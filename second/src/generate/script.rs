@@ -187,8 +187,9 @@ impl Script {
     // ----- things done with several transactions -----
 
     /// Sets W, starts the oscillator, writes 02h to 08h, and then writes 00h
-    /// with W = 0, so that the core takes the calendar. `control` is what 00h
-    /// is given at the end (and before, with W = 1 added); its W must be 0.
+    /// with W = 0, so that the core takes the calendar if it is a valid one.
+    /// `control` is what 00h is given at the end (and before, with W = 1
+    /// added); its W must be 0.
     pub fn load_calendar(&mut self, calendar: Calendar, control: u8) -> &mut Script {
         assert!(control & WRITE_CALENDAR == 0, "W has to fall");
         let mut data = vec![control | WRITE_CALENDAR, 0x00];

@@ -8,7 +8,8 @@ use super::transactions::{doubtful_calendar, plausible_alarm, plausible_calendar
 use super::List;
 use crate::calendar::calendar_from_numbers;
 
-/// Valid and doubtful dates loaded into the core, with ticks and reads after.
+/// Valid and doubtful dates to be loaded into the core, with ticks and reads
+/// after.
 pub fn dates_loaded(source: &mut RandomSource) -> Vec<List> {
     let mut lists = Vec::new();
     for number in 0..6 {

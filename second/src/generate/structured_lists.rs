@@ -4,7 +4,10 @@
 use super::random_source::RandomSource;
 use super::script::Script;
 use super::transactions::{plausible_alarm, plausible_calendar, plausible_memory_address};
-use super::{structured_bus, structured_calendar, structured_companion, structured_refused, List};
+use super::{
+    structured_bad_dates, structured_bus, structured_calendar, structured_companion,
+    structured_refused, List,
+};
 
 /// Structured lists with about so many events in all. Every round makes lists
 /// of each family; within a round the families take turns, so that also a small
@@ -55,6 +58,7 @@ fn small_families(source: &mut RandomSource) -> Vec<Vec<List>> {
         structured_companion::companion_wraps(source),
         structured_companion::pin_combinations(source),
         structured_companion::both_supplies_lost(source),
+        structured_bad_dates::bad_dates(source),
         structured_calendar::dates_loaded(source),
         structured_calendar::alarms(source),
         structured_calendar::calendar_rollovers(source),

@@ -2,7 +2,7 @@
 //! Watches a device and notes which situations come about.
 
 use crate::snapshot::{snapshot, Snapshot};
-use second::generate::List;
+use second::generate::{HandedInList, List};
 use second::registers::alarm_matches;
 use second::{Device, LogicalDevice, Phase, PinFunction, Power, Transfer};
 
@@ -18,6 +18,9 @@ pub enum Situation {
     AlarmRaisedWithAEN,
     AlarmRaisedWithPower,
     AlarmWithSelectedFields,
+    BadDateRefused,
+    BadDateRefusedByRollOver,
+    BadDateRefusedWithR,
     BothAddressesClearedByEvent,
     CFRaisedDuringAReadOfControl,
     CalendarWrittenWithW,
@@ -60,7 +63,7 @@ pub enum Situation {
     WrapByWrite,
 }
 
-const SITUATIONS: usize = 49;
+const SITUATIONS: usize = 52;
 
 /// A situation and the number of its kind.
 pub type Fact = (Situation, u8);
@@ -118,17 +121,31 @@ fn place_number(transfer: &Transfer) -> u8 {
 pub fn facts_of(lists: &[List]) -> Facts {
     let mut facts = Facts::new();
     for list in lists {
-        let mut device = list.device();
-        let mut refused_under = None;
-        for event in &list.events {
-            let before = snapshot(&device);
-            let answer = device.event(*event);
-            let after = snapshot(&device);
-            note(&mut facts, &before, *event, answer, &after, &device);
-            note_reading_on(&mut facts, &before, *event, &after, &mut refused_under);
-        }
+        note_run(&mut facts, list.device(), &list.events);
     }
     facts
+}
+
+/// The same for lists with states handed in.
+pub fn facts_of_handed_in(lists: &[HandedInList]) -> Facts {
+    let mut facts = Facts::new();
+    for list in lists {
+        note_run(&mut facts, list.device(), &list.events);
+    }
+    facts
+}
+
+fn note_run(facts: &mut Facts, mut device: Device, events: &[u8]) {
+    let mut refused_under = None;
+    let mut rolled_over = false;
+    for event in events {
+        let before = snapshot(&device);
+        let answer = device.event(*event);
+        let after = snapshot(&device);
+        note(facts, &before, *event, answer, &after, &device);
+        note_reading_on(facts, &before, *event, &after, &mut refused_under);
+        note_roll_over(facts, &before, *event, &after, &mut rolled_over);
+    }
 }
 
 fn note(
@@ -276,6 +293,9 @@ fn note_received_byte(facts: &mut Facts, before: &Snapshot, master: bool, after:
             note_wrap(facts, before, after, Situation::WrapByWrite);
             facts.insert((Situation::MemoryByteStoredUnderProtection, protection))
         }
+        Phase::WriteData(LogicalDevice::Companion) if refused => {
+            note_bad_date(facts, before, byte);
+        }
         Phase::WriteData(LogicalDevice::Companion) => {
             note_wrap(facts, before, after, Situation::WrapByWrite);
             note_register_write(facts, before, byte, after);
@@ -283,6 +303,44 @@ fn note_received_byte(facts: &mut Facts, before: &Snapshot, master: bool, after:
         }
         Phase::MemoryAddressHighByte => facts.insert((Situation::UpperAddressBits, byte >> 5)),
         _ => {}
+    }
+}
+
+/// A byte of 00h that is refused; the kinds are 0 to 6 for the register that is
+/// at fault first, 7 for a date beyond its month's end.
+fn note_bad_date(facts: &mut Facts, before: &Snapshot, byte: u8) {
+    let limits = [0x59, 0x59, 0x23, 0x07, 0x31, 0x12, 0x99];
+    let lowest = [0, 0, 0, 1, 1, 1, 0];
+    let at_fault = (0..7).find(|place| {
+        let field = before.registers[2 + place];
+        field & 0x0F > 9 || field > limits[*place] || field < lowest[*place]
+    });
+    let kind = at_fault.unwrap_or(7) as u8;
+    facts.insert((Situation::BadDateRefused, kind));
+    let read_bits = (before.registers[0] & 1) * 2 + (byte & 1);
+    facts.insert((Situation::BadDateRefusedWithR, read_bits));
+}
+
+/// Registers 0Eh and 00h written in one transaction, the second one refused.
+fn note_roll_over(
+    facts: &mut Facts,
+    before: &Snapshot,
+    event: u8,
+    after: &Snapshot,
+    rolled_over: &mut bool,
+) {
+    let is_clock = matches!(event, 2 | 3) && before.power == Power::On;
+    let writing = before.transfer.phase == Phase::WriteData(LogicalDevice::Companion);
+    if !writing || !is_clock {
+        *rolled_over = false;
+        return;
+    }
+    let refused = after.transfer.phase == Phase::BetweenTransfers;
+    if *rolled_over && before.transfer.clocks == 7 && refused {
+        facts.insert((Situation::BadDateRefusedByRollOver, 0));
+    }
+    if before.companion_address == 0x0E && after.companion_address == 0x00 {
+        *rolled_over = true;
     }
 }
 
@@ -447,6 +505,9 @@ pub fn required_facts() -> Vec<Fact> {
     want(Situation::CalibrationWrittenWithCAL, &[0, 1]);
     want(Situation::CalendarWrittenWithW, &[0, 1]);
     want(Situation::RegisterWritten, &(0..15).collect::<Vec<u8>>());
+    want(Situation::BadDateRefused, &[0, 1, 2, 3, 4, 5, 6, 7]);
+    want(Situation::BadDateRefusedWithR, &[0, 1, 2, 3]);
+    want(Situation::BadDateRefusedByRollOver, &[0]);
     required.extend(required_tick_and_power_facts());
     required.extend(required_places());
     required
@@ -459,8 +520,8 @@ fn required_tick_and_power_facts() -> Vec<Fact> {
             required.push((name, *number));
         }
     };
-    // on and on backup: runs or halted, valid or not; gone: halted and valid
-    want(Situation::Tick, &[0, 1, 2, 3, 4, 5, 7, 11]);
+    // on and on backup: runs or halted; gone: halted; the core is valid
+    want(Situation::Tick, &[1, 3, 5, 7, 11]);
     want(Situation::CountedTickWithWAndR, &[0, 1, 2, 3]);
     want(Situation::FlagsRaised, &[0, 1, 2, 3]);
     want(
@@ -486,6 +547,13 @@ fn required_tick_and_power_facts() -> Vec<Fact> {
         &[4, 8, 9, 10, 11, 12, 13, 14],
     );
     required
+}
+
+/// Ticks that find an invalid core; no events bring these about.
+pub fn ticks_with_an_invalid_core() -> Vec<Fact> {
+    [0, 2, 4, 6, 8, 10]
+        .map(|kind| (Situation::Tick, kind))
+        .to_vec()
 }
 
 /// Every phase with every number of clocks of its byte, and Starts, Stops,
