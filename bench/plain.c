@@ -142,6 +142,13 @@ static void write_control(struct plain_device *device, uint8_t byte)
     renew_pin(device);
 }
 
+/* A write of 00h in which W falls while 02h to 08h are no calendar. */
+static int loads_no_date(const struct plain_device *device, uint8_t byte)
+{
+    return device->companion_address == CONTROL && device->registers[CONTROL] & W && !(byte & W) &&
+           !is_valid(&device->registers[TIME]);
+}
+
 static void write_register(struct plain_device *device, uint8_t byte)
 {
     uint8_t address = device->companion_address;
@@ -220,7 +227,10 @@ static void take_byte(struct plain_device *device, uint8_t *memory)
         put_into_memory(device, memory, byte);
         break;
     case WRITE_COMPANION:
-        write_register(device, byte);
+        if (loads_no_date(device, byte))
+            begin_byte(device, IDLE);
+        else
+            write_register(device, byte);
         step_companion_address(device);
         break;
     default:

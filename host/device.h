@@ -12,8 +12,9 @@ struct device {
     uint8_t memory[FM3130_MEMORY_BYTES];
 };
 
-/* Places in the image beyond the registers, by docs/IMAGE.md. */
+/* Places in the image, by docs/IMAGE.md. */
 enum image_place {
+    IMAGE_TIME = 2,               /* registers 02h to 08h: seven bytes, seconds first */
     IMAGE_CORE = 15,              /* the calendar that counts: seven bytes, seconds first */
     IMAGE_COMPANION_ADDRESS = 22, /* 0 to 14 */
     IMAGE_MEMORY_ADDRESS = 23,    /* two bytes, the high one first */

@@ -86,6 +86,13 @@ static const char *slave_words(unsigned byte) {
     }
 }
 
+/* A byte for 00h that would have loaded the clock with a date that does not exist. */
+static void print_refused_date(const struct story *story) {
+    fprintf(story->out, "%02Xh refused: ", story->address);
+    print_calendar(story->out, story->device->image + IMAGE_TIME);
+    fputs(" is no date, not loaded; the clock keeps its own", story->out);
+}
+
 /* A data byte to or from a register. */
 static void print_register_byte(const struct story *story) {
     unsigned held = story->device->image[story->address];
@@ -125,6 +132,13 @@ static void print_meaning(const struct story *story, int is_taken) {
         break;
     case PHASE_READ_MEMORY:
         fprintf(out, "memory %04Xh", story->address);
+        break;
+    case PHASE_WRITE_COMPANION:
+        if (!is_taken) {
+            print_refused_date(story);
+            break;
+        }
+        print_register_byte(story);
         break;
     default:
         print_register_byte(story);

@@ -252,7 +252,11 @@ impl Device {
             Phase::Pointer => self.companion_address = byte,
             Phase::WriteMemory => self.put_into_memory(memory, byte),
             Phase::WriteCompanion => {
-                self.write_register(byte);
+                if self.loads_no_date(byte) {
+                    self.begin_byte(Phase::Idle);
+                } else {
+                    self.write_register(byte);
+                }
                 self.step_companion_address();
             }
             _ => {}
@@ -348,6 +352,14 @@ impl Device {
             self.time_takes_core();
         }
         self.renew_pin();
+    }
+
+    /// A write of 00h in which W falls while 02h to 08h are no calendar.
+    fn loads_no_date(&self, byte: u8) -> bool {
+        usize::from(self.companion_address) == CONTROL
+            && self.registers[CONTROL] & W != 0
+            && byte & W == 0
+            && !self.registers[2..].first_chunk().is_some_and(is_valid)
     }
 
     fn write_register(&mut self, byte: u8) {

@@ -2,7 +2,8 @@
 //! A list of events on the proved program and on the second program.
 
 use crate::{archive, image};
-use second::generate::List;
+use second::generate::{HandedInList, List};
+use second::Device;
 
 /// What a run leaves: everything that a host can see of it.
 #[derive(Clone, Debug, PartialEq, Eq)]
@@ -12,10 +13,37 @@ pub struct Left {
     pub memory: Vec<u8>,
 }
 
-/// The list on the second program.
-pub fn by_second(list: &List) -> Left {
-    let mut device = list.device();
-    let answers = device.run(&list.events);
+/// A device of the second program to begin with, and the events that it is given.
+pub struct Case {
+    pub name: String,
+    pub device: Device,
+    pub events: Vec<u8>,
+}
+
+impl Case {
+    /// A list on the fresh device that it asks for.
+    pub fn of(list: &List) -> Case {
+        Case {
+            name: format!("{}/{}", list.family, list.name),
+            device: list.device(),
+            events: list.events.clone(),
+        }
+    }
+
+    /// A list on the state that is handed in with it.
+    pub fn handed_in(list: &HandedInList) -> Case {
+        Case {
+            name: format!("{}/{}", list.family, list.name),
+            device: list.device(),
+            events: list.events.clone(),
+        }
+    }
+}
+
+/// The case on the second program.
+pub fn by_second(case: &Case) -> Left {
+    let mut device = case.device.clone();
+    let answers = device.run(&case.events);
     Left {
         answers,
         image: image::of(&device),
@@ -23,13 +51,12 @@ pub fn by_second(list: &List) -> Left {
     }
 }
 
-/// The list on the proved program, in calls of at most so many events each.
-pub fn by_archive(list: &List, most: usize) -> Left {
-    let mut image = [0; image::IMAGE_BYTES];
-    assert_eq!(archive::fresh(&mut image), 0);
-    let mut memory = list.device().memory;
-    let mut answers = vec![0xEE; list.events.len()];
-    for (events, answers) in list.events.chunks(most).zip(answers.chunks_mut(most)) {
+/// The case on the proved program, in calls of at most so many events each.
+pub fn by_archive(case: &Case, most: usize) -> Left {
+    let mut image = image::of(&case.device);
+    let mut memory = case.device.memory.clone();
+    let mut answers = vec![0xEE; case.events.len()];
+    for (events, answers) in case.events.chunks(most).zip(answers.chunks_mut(most)) {
         let ran = archive::run(&mut image, &mut memory, events, answers);
         assert_eq!((ran.number, ran.count), (0, events.len() as u64));
     }
@@ -40,19 +67,19 @@ pub fn by_archive(list: &List, most: usize) -> Left {
     }
 }
 
-/// Holds the proved program to the second program on one list, whole and in pieces of 1, 7 and 64 events.
-pub fn hold(list: &List) {
-    let expected = by_second(list);
+/// Holds the proved program to the second program on one case, whole and in pieces of 1, 7 and 64 events.
+pub fn hold(case: &Case) {
+    let expected = by_second(case);
     for most in [usize::MAX, 1, 7, 64] {
-        let found = by_archive(list, most);
+        let found = by_archive(case, most);
         if found != expected {
-            panic!("{}", difference(list, most, &expected, &found));
+            panic!("{}", difference(case, most, &expected, &found));
         }
     }
 }
 
-/// Where two runs of a list first differ, in words.
-fn difference(list: &List, most: usize, expected: &Left, found: &Left) -> String {
+/// Where two runs of a case first differ, in words.
+fn difference(case: &Case, most: usize, expected: &Left, found: &Left) -> String {
     let place = expected
         .answers
         .iter()
@@ -61,7 +88,7 @@ fn difference(list: &List, most: usize, expected: &Left, found: &Left) -> String
     let answer = match place {
         Some(at) => format!(
             "answer {at} to event {} is {:02X}h, not {:02X}h",
-            list.events[at], found.answers[at], expected.answers[at]
+            case.events[at], found.answers[at], expected.answers[at]
         ),
         None => "all answers agree".to_string(),
     };
@@ -76,7 +103,7 @@ fn difference(list: &List, most: usize, expected: &Left, found: &Left) -> String
         .zip(&found.memory)
         .position(|(one, other)| one != other);
     format!(
-        "{}/{}, at most {most} events a call: {answer}; image differs at {image:?}, memory at {memory:?}",
-        list.family, list.name
+        "{}, at most {most} events a call: {answer}; image differs at {image:?}, memory at {memory:?}",
+        case.name
     )
 }

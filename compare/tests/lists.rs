@@ -1,12 +1,24 @@
 // SPDX-License-Identifier: Apache-2.0
 //! Every list of the second program's generators on both programs: answers, image and memory, whole and in pieces.
 
-use compare::lists::{by_archive, by_second, hold};
-use second::generate::{count_events, exhaustive, random, structured, List};
+use compare::lists::{by_archive, by_second, hold, Case};
+use second::generate::{
+    count_events, count_handed_in_events, exhaustive, handed_in, handed_in_random, random,
+    structured, HandedInList, List,
+};
 
 fn hold_all(lists: &[List], least: usize) {
-    lists.iter().for_each(hold);
+    lists.iter().map(Case::of).for_each(|case| hold(&case));
     let events = count_events(lists);
+    assert!(events >= least, "{events} events are fewer than {least}");
+}
+
+fn hold_handed_in(lists: &[HandedInList], least: usize) {
+    lists
+        .iter()
+        .map(Case::handed_in)
+        .for_each(|case| hold(&case));
+    let events = count_handed_in_events(lists);
     assert!(events >= least, "{events} events are fewer than {least}");
 }
 
@@ -25,6 +37,13 @@ fn random_lists_agree() {
     hold_all(&random(11, 12_000_000), 11_900_000);
 }
 
+/// Only a state handed in can have an invalid core.
+#[test]
+fn lists_on_states_handed_in_agree() {
+    hold_handed_in(&handed_in(), 500_000);
+    hold_handed_in(&handed_in_random(13, 2_000_000), 1_900_000);
+}
+
 #[test]
 fn another_list_is_noticed() {
     let list = structured(7, 20_000).swap_remove(3);
@@ -35,6 +54,7 @@ fn another_list_is_noticed() {
         .rposition(|event| *event == 2)
         .expect("a list has a low clock");
     other.events[clock] = 3;
-    assert_eq!(by_archive(&list, usize::MAX), by_second(&list));
-    assert_ne!(by_archive(&list, usize::MAX), by_second(&other));
+    let (one, another) = (Case::of(&list), Case::of(&other));
+    assert_eq!(by_archive(&one, usize::MAX), by_second(&one));
+    assert_ne!(by_archive(&one, usize::MAX), by_second(&another));
 }

@@ -168,6 +168,17 @@ impl State {
         }
     }
 
+    /// Registers 02h to 08h as a calendar: what a host reads and writes. The core counts behind them.
+    ///
+    /// ```
+    /// let state = fm3130::Device::fresh().state();
+    /// assert_eq!(state.calendar_registers(), state.core);
+    /// ```
+    pub fn calendar_registers(&self) -> Calendar {
+        let [_, _, seconds, minutes, hours, day, date, month, year, ..] = self.registers;
+        Calendar::from_bytes([seconds, minutes, hours, day, date, month, year])
+    }
+
     /// The ACS pin. It is released when both supplies are gone.
     ///
     /// ```

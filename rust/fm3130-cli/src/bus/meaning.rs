@@ -118,8 +118,19 @@ fn memory_write(first: &State, eighth: &State) -> Meaning {
     }
 }
 
+/// A refused byte has ended the transfer by its eighth clock: it would have loaded the clock with a
+/// date that does not exist.
 fn companion_write(first: &State, eighth: &State, byte: u8) -> Meaning {
     let address = first.companion_address;
+    if eighth.phase == Phase::Idle {
+        let written = first.calendar_registers();
+        return Meaning::new(
+            format!(
+                "{address:02X}h refused: {written} is no date, not loaded; the clock keeps its own"
+            ),
+            "no date: refused",
+        );
+    }
     let held = eighth.registers[usize::from(address)];
     let kept = if held == byte {
         String::new()
