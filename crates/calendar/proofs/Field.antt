@@ -5,13 +5,13 @@
 -- is lost, top + 1 - low, is what the carry out stands for. This sum is linear, so the sums of all fields add up to
 -- the law of the whole calendar.
 -- Assumes nothing.
-use mathlib.Core.Path.{_≡_, refl}
-use mathlib.Core.Bool.{Bool, true, false}
+use mathlib.Core.Path.{_≡_, refl, ap}
+use mathlib.Core.Bool.{Bool, true, false, not}
 use mathlib.Core.List.{List, [], _∷_}
 use Prim.Native.Nat.{ℕ, _+_, _*_, _%_, _≤_, _<_}
 use native.Mathlib.Omega.{arith}
 use lib.Dec.{T, ltb, leb, eqb, ltb→lt, leb→le, lt→ltb, le→leb}
-use borrow.Author.Tests.{eqb-true, eqb-false}
+use borrow.Author.Tests.{eqb-true, eqb-false, eq-eqb, ne-eqb}
 use Rattle.calendar.specs.declared.fields.Carried.{Carried}
 use Rattle.calendar.specs.Field.{value, bcd, bit, inField, turnOf, stepOf}
 use Rattle.calendar.proofs.Tests.{Each, none, _also_, joined-each, each-joined}
@@ -95,3 +95,25 @@ module _ (low top x : ℕ) (small : low < 10) (f : InField low top x) where
   unfolding stepOf
   step-stepped true = turn-stepped (eqb (value x) top) refl
   step-stepped false = record { field = f; sum = omega arith; less = omega arith }
+
+  -- with a carry the byte changes, without one it stays
+  pub step-same : low < top → (b : Bool) → eqb x (stepOf low top b x .byte) ≡ not b
+  unfolding stepOf
+  step-same wide true =
+      let s = step-stepped true in
+      ne-eqb x (stepOf low top true x .byte)
+      (λ e. let h : value x ≡ value (stepOf low top true x .byte) = ap value e in
+      by-carry (stepOf low top true x .carry) refl h)
+    where
+      by-carry : (b : Bool) → stepOf low top true x .carry ≡ b → value x ≡ value (stepOf low top true x .byte) → ⊥
+      by-carry true c h =
+          let z : bit (stepOf low top true x .carry) ≡ 1 = ap bit c in
+          let p = ap (λ (n : ℕ). (top + 1) * n) z in
+          let q = ap (λ (n : ℕ). low * n) z in
+          omega (arith, step-stepped true .sum)
+      by-carry false c h =
+          let z : bit (stepOf low top true x .carry) ≡ 0 = ap bit c in
+          let p = ap (λ (n : ℕ). (top + 1) * n) z in
+          let q = ap (λ (n : ℕ). low * n) z in
+          omega (arith, step-stepped true .sum)
+  step-same wide false = eq-eqb x x refl

@@ -9,6 +9,7 @@ pub mod Valid
 pub mod Tick
 pub mod Instant
 pub mod Next
+pub mod Highest
 pub mod Width
 pub mod After
 pub mod Cases

@@ -5,16 +5,18 @@
 -- are as they were.
 -- Assumes nothing.
 use mathlib.Core.Path.{_≡_, refl, ap}
-use mathlib.Core.Bool.{Bool, true, false}
+use mathlib.Core.Bool.{Bool, true, false, not, cond}
 use Prim.Native.Nat.{ℕ, _+_, _*_, _<_}
 use native.Mathlib.Omega.{arith}
 use lib.Dec.{lit<}
 use Rattle.calendar.specs.Field.{value, bit, stepOf}
-use Rattle.calendar.specs.Next.{lengthOf, tickOf, secondsOf, minutesOf, hoursOf, dayOf, dateOf, monthOf, yearOf}
+use Rattle.calendar.specs.Highest.{changedOf, highestOf}
+use Rattle.calendar.specs.Next.{lengthOf, laterOf, tickOf, secondsOf, minutesOf, hoursOf, dayOf, dateOf, monthOf, yearOf}
 use Rattle.calendar.specs.declared.fields.Carried.{Carried}
 use Rattle.calendar.specs.declared.Calendar.{Calendar}
 use Rattle.calendar.specs.declared.Advanced.{Advanced}
-use Rattle.calendar.proofs.Field.{InField, Stepped, step-stepped, bit-le}
+use Rattle.calendar.specs.declared.Rolled.{Rolled}
+use Rattle.calendar.proofs.Field.{InField, Stepped, step-stepped, step-same, bit-le}
 use Rattle.calendar.proofs.Month.{month-length-limits}
 use Rattle.calendar.proofs.Valid.{Valid}
 
@@ -79,9 +81,29 @@ module _ (c : Calendar) (v : Valid c) where
         year = t .year .field;
       }
 
--- an advanced calendar from its seven stepped fields
-abbrev pub advancedOf : (seconds minutes hours day date month year : Carried) → Advanced
-advancedOf seconds minutes hours day date month year =
+-- the field that the tick says, by its carries, is the highest that changed: each field changes exactly with a carry
+cond-not : {A : Type 0} (t : Bool) (x y : A) → cond (not t) x y ≡ cond t y x
+cond-not true x y = refl
+cond-not false x y = refl
+
+pub tick-rolled : (c : Calendar) → Valid c
+    → highestOf (secondsOf c .carry) (minutesOf c .carry) (hoursOf c .carry) (dateOf c .carry) (monthOf c .carry)
+    ≡ changedOf c (laterOf c)
+unfolding highestOf changedOf
+tick-rolled c v =
+    let l = month-length-limits (value (c .month)) (value (c .year)) (v .month .least) (v .month .most) in
+    rw (
+      step-same 0 99 (c .year) (lit< tt) (v .year) (lit< tt) (monthOf c .carry),
+      step-same 1 12 (c .month) (lit< tt) (v .month) (lit< tt) (dateOf c .carry),
+      step-same 1 (lengthOf c) (c .date) (lit< tt) (v .date) (omega arith) (hoursOf c .carry),
+      step-same 0 23 (c .hours) (lit< tt) (v .hours) (lit< tt) (minutesOf c .carry),
+      step-same 0 59 (c .minutes) (lit< tt) (v .minutes) (lit< tt) (secondsOf c .carry),
+      step-same 0 59 (c .seconds) (lit< tt) (v .seconds) (lit< tt) true,
+    ) (simp cond-not)
+
+-- an advanced calendar from its seven stepped fields, and what it says
+abbrev pub advancedOf : (seconds minutes hours day date month year : Carried) → Rolled → Advanced
+advancedOf seconds minutes hours day date month year rolled =
     record {
       calendar =
           record {
@@ -94,11 +116,13 @@ advancedOf seconds minutes hours day date month year =
             year = year .byte;
           };
       century = year .carry;
+      rolled = rolled;
     }
 
 -- the seven steps, as they come one by one, are the tick
 pub tick-of-steps :
-    (c : Calendar) {length : ℕ} {seconds minutes hours day date month year : Carried}
+    (c : Calendar) {length : ℕ} {seconds minutes hours day date month year : Carried} {rolled : Rolled}
+    → Valid c
     → length ≡ lengthOf c
     → seconds ≡ stepOf 0 59 true (c .seconds)
     → minutes ≡ stepOf 0 59 (seconds .carry) (c .minutes)
@@ -107,6 +131,7 @@ pub tick-of-steps :
     → date ≡ stepOf 1 length (hours .carry) (c .date)
     → month ≡ stepOf 1 12 (date .carry) (c .month)
     → year ≡ stepOf 0 99 (month .carry) (c .year)
-    → advancedOf seconds minutes hours day date month year ≡ tickOf c
+    → rolled ≡ highestOf (seconds .carry) (minutes .carry) (hours .carry) (date .carry) (month .carry)
+    → advancedOf seconds minutes hours day date month year rolled ≡ tickOf c
 unfolding tickOf
-tick-of-steps c e f g h i j k l = cc
+tick-of-steps c v e f g h i j k l r = cc (tick-rolled c v)

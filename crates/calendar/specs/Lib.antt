@@ -2,6 +2,7 @@
 -- The definitions that the calendar's promises and laws cite, each file over those above it. Assumes nothing.
 pub mod Field
 pub mod Month
+pub mod Highest
 pub mod Next
 pub mod Width
 pub mod Instant

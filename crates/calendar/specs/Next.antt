@@ -4,7 +4,8 @@
 --   lengthOf c             how many days the month of c has
 --   isValid c              c is a date and a time that exist
 --   secondsOf .. yearOf    each field after the tick of a valid calendar, with its carry
---   tickOf c               the next second of a valid calendar
+--   laterOf c              the next second of a valid calendar
+--   tickOf c               the tick of a valid calendar
 --   nextOf c               the tick of any calendar
 --
 -- Assumes nothing.
@@ -12,9 +13,11 @@ use Prim.Native.Nat.{ℕ}
 use mathlib.Core.Bool.{Bool, true, false, _&&_}
 use Rattle.calendar.specs.Field.{value, inField, stepOf}
 use Rattle.calendar.specs.Month.{monthLength}
+use Rattle.calendar.specs.Highest.{changedOf}
 use Rattle.calendar.specs.declared.fields.Carried.{Carried}
 use Rattle.calendar.specs.declared.Calendar.{Calendar}
 use Rattle.calendar.specs.declared.Advanced.{Advanced}
+use Rattle.calendar.specs.declared.Rolled.the-variants.{Nothing}
 
 -- Auxiliary: the length of the calendar's own month
 abbrev pub lengthOf : Calendar → ℕ
@@ -50,28 +53,29 @@ monthOf c = stepOf 1 12 (dateOf c .carry) (c .month)
 abbrev pub yearOf : Calendar → Carried
 yearOf c = stepOf 0 99 (monthOf c .carry) (c .year)
 
--- 01, Ticks, alarm, power: "A valid core goes to the next second"; "Year 99 to 00 sets CF"
-unfoldable pub tickOf : Calendar → Advanced
-tickOf c =
+-- 01, Ticks, alarm, power: "A valid core goes to the next second"
+abbrev pub laterOf : Calendar → Calendar
+laterOf c =
     record {
-      calendar =
-          record {
-            seconds = secondsOf c .byte;
-            minutes = minutesOf c .byte;
-            hours = hoursOf c .byte;
-            day = dayOf c .byte;
-            date = dateOf c .byte;
-            month = monthOf c .byte;
-            year = yearOf c .byte;
-          };
-      century = yearOf c .carry;
+      seconds = secondsOf c .byte;
+      minutes = minutesOf c .byte;
+      hours = hoursOf c .byte;
+      day = dayOf c .byte;
+      date = dateOf c .byte;
+      month = monthOf c .byte;
+      year = yearOf c .byte;
     }
+
+-- 01, Ticks, alarm, power: "Year 99 to 00 sets CF"; 02, number 4: "the highest field that changed"
+unfoldable pub tickOf : Calendar → Advanced
+tickOf c = record { calendar = laterOf c; century = yearOf c .carry; rolled = changedOf c (laterOf c) }
 
 -- Auxiliary: the tick, where the test says whether the calendar is valid
 abbrev pub tickIf : Bool → Calendar → Advanced
 tickIf true c = tickOf c
-tickIf false c = record { calendar = c; century = false }
+tickIf false c = record { calendar = c; century = false; rolled = Nothing }
 
--- 01, Ticks, alarm, power (ruling): "An invalid core is left unchanged and raises nothing"
+-- 01, Ticks, alarm, power (ruling): "An invalid core is left unchanged and raises nothing"; 02, number 4: it "says
+-- nothing"
 unfoldable pub nextOf : Calendar → Advanced
 nextOf c = tickIf (isValid c) c

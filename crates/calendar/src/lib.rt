@@ -3,15 +3,18 @@
 //
 //   fields.rt   one field of two decimal digits: its number, its limits, its step with a carry
 //   months.rt   how many days a month has
+//   carries.rt  the highest field that took a carry
 //   lib.rt      the calendar: the carry goes from field to field
 ghost use mathlib.Core.Path.{_≡_};
 ghost use lib.Dec.{T};
 ghost use Rattle.calendar.specs.Next.{lengthOf, isValid, tickOf, nextOf};
 ghost use Rattle.calendar.specs.Width.{isWithin};
 
+mod carries;
 mod fields;
 mod months;
 
+use crate::carries::highest;
 use crate::fields::in_field;
 use crate::fields::step;
 use crate::fields::value;
@@ -28,10 +31,22 @@ pub struct Calendar {
     pub year: u8,
 }
 
-// A calendar after a tick, and whether year 99 gave way to 00.
+// The highest field that a tick changed. The day of the week is not asked.
+pub enum Rolled {
+    Nothing,
+    Seconds,
+    Minutes,
+    Hours,
+    Date,
+    Month,
+    Year,
+}
+
+// A calendar after a tick, whether year 99 gave way to 00, and the highest field that changed.
 pub struct Advanced {
     pub calendar: Calendar,
     pub century: bool,
+    pub rolled: Rolled,
 }
 
 impl Calendar {
@@ -81,6 +96,13 @@ impl Calendar {
         let date = step(self.date, 1, length, hours.carry);
         let month = step(self.month, 1, 12, date.carry);
         let year = step(self.year, 0, 99, month.carry);
+        let rolled = highest(
+            seconds.carry,
+            minutes.carry,
+            hours.carry,
+            date.carry,
+            month.carry,
+        );
         Advanced {
             calendar: Calendar {
                 seconds: seconds.byte,
@@ -92,11 +114,12 @@ impl Calendar {
                 year: year.byte,
             },
             century: year.carry,
+            rolled: rolled,
         }
     }
 
-    // The next second of a valid calendar, and whether year 99 gave way to 00. An invalid calendar comes back as it
-    // is, and raises nothing.
+    // The next second of a valid calendar, whether year 99 gave way to 00, and the highest field that changed. An
+    // invalid calendar comes back as it is, raises nothing and says that nothing changed.
     pub fn next(self) -> Advanced
         ensures { λ r. ⌜ r ≡ nextOf self ⌝ }
     {
@@ -106,6 +129,7 @@ impl Calendar {
         Advanced {
             calendar: self,
             century: false,
+            rolled: Rolled::Nothing,
         }
     }
 }

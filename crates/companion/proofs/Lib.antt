@@ -10,3 +10,4 @@ pub mod LimitFacts
 pub mod Within
 pub mod Valid
 pub mod Shown
+pub mod Says

@@ -19,7 +19,7 @@ use Rattle.companion.specs.Registers.{registerAt, putAt}
 use Rattle.companion.specs.Control.{flagsAfter, wFalls}
 use Rattle.companion.specs.Change.{withRegisters, withAddress}
 use Rattle.companion.specs.Write.{writtenOf}
-unfoldable pub use Rattle.companion.specs.Tick.{tickOf}
+unfoldable pub use Rattle.companion.specs.Tick.{tickOf, rolledOf}
 unfoldable pub use Rattle.companion.specs.Pin.{pinOf, guardOf}
 unfoldable pub use Rattle.companion.specs.Power.{backedOf, lostOf, returnedOf}
 unfoldable pub use Rattle.companion.specs.Limits.{isWithin}

@@ -5,14 +5,18 @@
 --   toldOf             00h after a tick that counts: what the tick tells
 --   countedOf          a tick that counts
 --   tickOf             a tick
+--   rolledOf           the field that a tick says
 -- Assumes nothing.
 use Prim.Native.Nat.{ℕ, _%_}
 use mathlib.Core.Bool.{Bool, cond, _&&_, _||_}
 use lib.Dec.{eqb}
 use Rattle.calendar.specs.Next.{isValid, nextOf}
 use Rattle.calendar.specs.declared.Calendar.{Calendar}
+use Rattle.calendar.specs.declared.Rolled.{Rolled}
+use Rattle.calendar.specs.declared.Rolled.the-variants.{Nothing}
 use Rattle.companion.specs.declared.Alarm.{Alarm}
 use Rattle.companion.specs.declared.Companion.{Companion}
+use Rattle.companion.specs.declared.Ticked.{Ticked}
 use Rattle.companion.specs.Map.{AF, CF, OSCEN, MATCH, has}
 use Rattle.companion.specs.Control.{flagged, followed}
 use Rattle.companion.specs.Change.{withTime}
@@ -51,3 +55,12 @@ countedOf c =
 -- 01, Ticks, alarm, power: "A tick counts if OSCEN is 0 .."; "A tick that does not count changes nothing".
 unfoldable pub tickOf : Companion → Companion
 tickOf c = cond (has (c .registers .trim) OSCEN) c (countedOf c)
+
+-- 02, number 4: "Let the tick itself say the highest field that changed"; "A tick that does not count, or finds an
+-- invalid core, says nothing".
+unfoldable pub rolledOf : Companion → Rolled
+rolledOf c = cond (has (c .registers .trim) OSCEN) Nothing (nextOf (c .core) .rolled)
+
+-- Auxiliary: what a tick returns.
+abbrev pub tickedOf : Companion → Rolled → Ticked
+tickedOf c w = record { companion = c; rolled = w }

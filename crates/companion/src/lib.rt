@@ -14,6 +14,7 @@
 //   limits.rt    the limits of a state
 //   part.rt      the bytes of a transfer: an address, a data byte, a read and its end
 use calendar::Calendar;
+use calendar::Rolled;
 
 mod access;
 mod change;
@@ -55,4 +56,10 @@ pub struct Companion {
 pub struct Taken {
     pub companion: Companion,
     pub acknowledged: bool,
+}
+
+// What a tick leaves, and the highest field of the core that it changed.
+pub struct Ticked {
+    pub companion: Companion,
+    pub rolled: Rolled,
 }

@@ -2,9 +2,11 @@
 // A one-second tick: the core goes on, the flags rise, 02h to 08h follow. Whether power or backup is present is the
 // caller's to test.
 ghost use mathlib.Core.Path.{_≡_};
-ghost use Rattle.companion.specs.Tick.{agrees, matches, toldOf, countedOf, tickOf};
+ghost use Rattle.companion.specs.Tick.{agrees, matches, toldOf, countedOf, tickOf, rolledOf, tickedOf};
+ghost use Rattle.calendar.specs.Next.{nextOf};
 use crate::Alarm;
 use crate::Companion;
+use crate::Ticked;
 use crate::control::flagged;
 use crate::control::followed;
 use crate::map::AF;
@@ -13,6 +15,7 @@ use crate::map::MATCH;
 use crate::map::OSCEN;
 use crate::map::has;
 use calendar::Calendar;
+use calendar::Rolled;
 
 // Whether an alarm field lets a calendar field pass: it has Match, or it is equal.
 fn agrees(alarm: u8, field: u8) -> bool
@@ -45,8 +48,8 @@ fn told(control: u8, rung: bool, century: bool) -> u8
 
 impl Companion {
     // A tick that counts: a valid core advances and is compared with the alarm, an invalid one stays and rings nothing.
-    fn counted(self) -> Companion
-        ensures { λ r. ⌜ r ≡ countedOf self ⌝ }
+    fn counted(self) -> Ticked
+        ensures { λ r. ⌜ r ≡ tickedOf (countedOf self) (nextOf (self .core) .rolled) ⌝ }
     {
         let core = self.core;
         let registers = self.registers;
@@ -56,19 +59,27 @@ impl Companion {
         let rung = core.is_valid() & alarm.matches(advanced);
         let control = told(registers.control, rung, next.century);
         let time = followed(registers.control, advanced, registers.time);
-        Companion {
+        let companion = Companion {
             registers: registers.with_time(control, time),
             core: advanced,
             address: self.address,
+        };
+        let rolled = next.rolled;
+        Ticked {
+            companion: companion,
+            rolled: rolled,
         }
     }
 
     // A tick: nothing changes while the oscillator is off.
-    pub fn tick(self) -> Companion
-        ensures { λ r. ⌜ r ≡ tickOf self ⌝ }
+    pub fn tick(self) -> Ticked
+        ensures { λ r. ⌜ r ≡ tickedOf (tickOf self) (rolledOf self) ⌝ }
     {
         if has(self.registers.trim, OSCEN) {
-            return self;
+            return Ticked {
+                companion: self,
+                rolled: Rolled::Nothing,
+            };
         }
         self.counted()
     }

@@ -3,26 +3,31 @@
 -- found into the definition at the matched value.
 -- Assumes nothing.
 use Prim.Native.Nat.{ℕ, _/_, _≤_}
-use mathlib.Core.Path.{_≡_, refl}
+use mathlib.Core.Path.{_≡_, refl, sym, _∙_}
 use mathlib.Core.Bool.{Bool, true, false, true≢false, false≢true}
 use mathlib.Core.List.{List}
 use native.Mathlib.Omega.{arith}
 use lib.Dec.{eqb}
-use borrow.Author.Tests.{eqb-true, eqb-false}
+use borrow.Author.Tests.{eqb-true, eqb-false, ne-eqb}
 use Rattle.wire.specs.Memory.{Cells, lent}
 use Rattle.wire.specs.Machine.{clock, out, clocked}
 use Rattle.wire.specs.declared.Phase.{Phase}
 use Rattle.wire.specs.declared.Phase.the-variants.{Idle}
+use Rattle.calendar.specs.declared.Rolled.the-variants.{Nothing}
 use Rattle.companion.specs.declared.Companion.{Companion}
+use Rattle.companion.proofs.Cases.{by-cond}
 use Rattle.device.specs.Chip.{fm3130, Done}
 use Rattle.device.specs.Bus.{clockedWith}
 use Rattle.device.specs.Power.{isSupplied}
-use Rattle.device.specs.Event.{Happening, onWire, second, returned, happening, still, ticked, eventOn}
-use Rattle.device.specs.Step.{HappenedWith, Stills}
+use Rattle.device.specs.Event.{Happening, onWire, second, returned, happening, still, ticked, eventOn, eventOf, rolledBy, rolledIn}
+use Rattle.device.specs.Answer.{answerByte}
+use Rattle.device.specs.Step.{HappenedWith, Stills, PassedWith, AnsweredWith, ToldWith}
 use Rattle.device.specs.declared.Power.{Power}
 use Rattle.device.specs.declared.Power.the-variants.{On, Backup, Off}
 use Rattle.device.specs.declared.State.{State}
 use Rattle.device.specs.declared.Happened.{Happened}
+use Rattle.device.specs.declared.Passed.{Passed}
+use Rattle.device.specs.declared.Answered.{Answered}
 
 pub at-phase : (s : State) (m : List ℕ) (high : Bool) {r : Happened} {m′ : List ℕ} {p q : Phase} → p ≡ q
     → HappenedWith r m′ (clockedWith s m q high) → HappenedWith r m′ (clockedWith s m p high)
@@ -80,3 +85,33 @@ tick-without Off s m h = refl
 
 pub tick-unsupplied : (s : State) (m : List ℕ) → isSupplied (s .power) ≡ false → eventOn (s .power) second s m ≡ still s m
 tick-unsupplied s m h = tick-without (s .power) s m h
+
+-- an event that is no tick says nothing
+pub no-tick : (s : State) (e : ℕ) → eqb e 4 ≡ false → rolledIn s e ≡ Nothing
+unfolding happening rolledBy
+no-tick s e h =
+    let Q : Happening → Type 0 = λ x. rolledBy x s ≡ Nothing in
+    by-cond Q (eqb e 0) (λ q. refl)
+    (λ q. by-cond Q (eqb e 1) (λ q. refl)
+    (λ q. by-cond Q (eqb e 2) (λ q. refl)
+    (λ q. by-cond Q (eqb e 3) (λ q. refl)
+    (λ q. by-cond Q (eqb e 4) (λ q. absurd (true≢false (sym q ∙ h)))
+    (λ q. by-cond Q (eqb e 5) (λ q. refl) (λ q. by-cond Q (eqb e 6) (λ q. refl) (λ q. refl)))))))
+
+-- what is told of a tick, and of another event
+pub told-tick : (s : State) (m : List ℕ) (r : Passed) (e a : ℕ) → e ≡ 4
+    → PassedWith r (λ n. eventOn (s .power) second s n) (rolledBy second s) → a ≡ answerByte (r .state) true
+    → ToldWith (record { state = r .state; answer = a; rolled = r .rolled }) m (eventOf s m e) (rolledIn s e)
+unfolding happening
+told-tick s m r e a q p h =
+    rw (q, p .state m, h) (record { result = λ i. record { state = r .state; answer = answerByte (r .state) true; rolled = p .rolled i }; memory = refl })
+
+pub told-other : (s : State) (m : List ℕ) (r : Answered) (m′ : List ℕ) (e : ℕ) → (e ≡ 4 → ⊥)
+    → AnsweredWith r m′ (eventOf s m e)
+    → ToldWith (record { state = r .state; answer = r .answer; rolled = Nothing }) m′ (eventOf s m e) (rolledIn s e)
+told-other s m r m′ e n p =
+    let w = no-tick s e (ne-eqb e 4 n) in
+    record {
+      result = λ i. record { state = p .result i .state; answer = p .result i .answer; rolled = sym w i };
+      memory = p .memory;
+    }

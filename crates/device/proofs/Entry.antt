@@ -16,7 +16,7 @@ use Rattle.companion.specs.Part.{isWithin}
 use Rattle.companion.proofs.LimitFacts.{within-address}
 use Rattle.device.specs.Numbers.{wrongMemory, wrongState, unknownEvent}
 use Rattle.device.specs.Chip.{memorySize}
-use Rattle.device.specs.Event.{eventOf}
+use Rattle.device.specs.Event.{eventOf, rolledIn}
 use Rattle.device.specs.Limits.{isLegal, powerWithin, wellFormed}
 use Rattle.device.specs.Step.{Ready, refused, answered, stepOf, StepSettled}
 use Rattle.device.specs.declared.State.{State}
@@ -60,12 +60,14 @@ module _ (s : State) (m : List ℕ) (e : ℕ) where
   unfolding stepOf
   step-unknown-event h w l = rw (eq-eqb (length m) memorySize h, w, le-ltb e 8 l)
 
-  pub step-answered : length m ≡ memorySize → wellFormed s ≡ true → e < 8 → stepOf s m e ≡ answered (eventOf s m e)
+  pub step-answered : length m ≡ memorySize → wellFormed s ≡ true → e < 8 → stepOf s m e ≡ answered (eventOf s m e) (rolledIn s e)
   unfolding stepOf
   step-answered h w l = rw (eq-eqb (length m) memorySize h, w, lt-ltb e 8 l)
 
   -- no second outcome satisfies the contract
   pub step-unique : (r r₂ : Stepped) (m′ m₂ : List ℕ) → StepSettled s m e r m′ → StepSettled s m e r₂ m₂ → (r ≡ r₂) × (m′ ≡ m₂)
   step-unique r r₂ m′ m₂ p q =
-      let same = p ∙ sym q in
-      (λ i. record { number = same i .number; state = same i .state; answer = same i .answer }, λ i. same i .memory)
+      let same = p ∙ sym q in (
+        λ i. record { number = same i .number; state = same i .state; answer = same i .answer; rolled = same i .rolled },
+        λ i. same i .memory,
+      )

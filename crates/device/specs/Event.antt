@@ -3,16 +3,19 @@
 --   Happening, happening   what an event byte says
 --   eventOn                an event, by the supplies that are present
 --   eventOf                an event byte
+--   rolledBy, rolledIn     the field of the calendar that an event, an event byte, says changed
 -- Assumes nothing.
 use Prim.Native.Nat.{ℕ}
 use mathlib.Core.Bool.{Bool, true, false, cond}
 use mathlib.Core.List.{List}
 use lib.Dec.{eqb}
 use Rattle.wire.specs.Machine.{Line, start, stop, clock, mastersLine, line, tick, step}
-use Rattle.companion.specs.Part.{tickOf}
+use Rattle.calendar.specs.declared.Rolled.{Rolled}
+use Rattle.calendar.specs.declared.Rolled.the-variants.{Nothing}
+use Rattle.companion.specs.Part.{tickOf, rolledOf}
 use Rattle.device.specs.Chip.{fm3130, machineOf, Done, doneOf}
 use Rattle.device.specs.Bus.{withCompanion}
-use Rattle.device.specs.Power.{backedUp, dark, restored, powered}
+use Rattle.device.specs.Power.{isSupplied, backedUp, dark, restored, powered}
 use Rattle.device.specs.declared.Power.{Power}
 use Rattle.device.specs.declared.Power.the-variants.{On, Backup, Off}
 use Rattle.device.specs.declared.State.{State}
@@ -66,3 +69,15 @@ eventOn Off returned s m = still (powered s) m
 
 abbrev pub eventOf : State → List ℕ → ℕ → Done
 eventOf s m e = eventOn (s .power) (happening e) s m
+
+-- 02, number 4: "Let the tick itself say the highest field that changed .. A tick that does not count .. says nothing";
+-- no other event says a field.
+unfoldable pub rolledBy : Happening → State → Rolled
+rolledBy (onWire x) s = Nothing
+rolledBy second s = cond (isSupplied (s .power)) (rolledOf (s .companion)) Nothing
+rolledBy lost s = Nothing
+rolledBy gone s = Nothing
+rolledBy returned s = Nothing
+
+abbrev pub rolledIn : State → ℕ → Rolled
+rolledIn s e = rolledBy (happening e) s

@@ -8,6 +8,7 @@
 // answer   the answer byte
 // limits   which states are well-formed
 // step     one event byte, and the entry with its refusals
+use calendar::Rolled;
 use companion::Companion;
 use wire::Phase;
 
@@ -49,11 +50,26 @@ pub struct Answered {
     pub answer: u8,
 }
 
-// What the entry for one event returns: the number of the table, the next state, and the answer byte.
+// What a tick leaves: the next state, and the highest field of the calendar that changed.
+pub struct Passed {
+    pub state: State,
+    pub rolled: Rolled,
+}
+
+// What an answered event leaves and tells: the next state, the answer byte, and the field of the calendar that changed.
+pub struct Told {
+    pub state: State,
+    pub answer: u8,
+    pub rolled: Rolled,
+}
+
+// What the entry for one event returns: the number of the table, the next state, the answer byte, and the highest field
+// of the calendar that changed.
 pub struct Stepped {
     pub number: u8,
     pub state: State,
     pub answer: u8,
+    pub rolled: Rolled,
 }
 
 // What a clock that serves the companion leaves: the next phase, the companion, and the line.

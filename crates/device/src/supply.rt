@@ -2,13 +2,15 @@
 // What the events do under each supply: Start, Stop and Clock while main power is present, ticks, and the supplies.
 ghost use mathlib.Core.Path.{_≡_};
 ghost use Rattle.wire.specs.Machine.{start, stop, clock};
-ghost use Rattle.device.specs.Event.{onWire, second, lost, gone, returned, eventOn};
+ghost use Rattle.device.specs.Event.{onWire, second, lost, gone, returned, eventOn, rolledBy};
 ghost use Rattle.device.specs.Power.{isSupplied, dark, poweredWith, fresh};
 ghost use Rattle.device.specs.Bus.{withCompanion};
-ghost use Rattle.device.specs.Step.{Ready, HappenedWith, Stills};
+ghost use Rattle.device.specs.Step.{Ready, HappenedWith, Stills, PassedWith};
 use crate::Happened;
+use crate::Passed;
 use crate::Power;
 use crate::State;
+use calendar::Rolled;
 use companion::Companion;
 use wire::Phase;
 
@@ -82,15 +84,34 @@ impl State {
     }
 
     // A one-second tick: goes to the companion while a supply is present. The companion's tick is called from one place.
-    pub(crate) fn tick(self) -> State
-        ensures { λ r. ⌜ Stills r (λ m. eventOn (self .power) second self m) ⌝ }
+    pub(crate) fn tick(self) -> Passed
+        ensures { λ r. ⌜ PassedWith r (λ m. eventOn (self .power) second self m) (rolledBy second self) ⌝ }
     {
         let power = self.power;
         let companion = self.companion;
         if is_supplied(power) {
-            return self.with_companion(companion.tick());
+            let ticked = companion.tick();
+            let next = ticked.companion;
+            let rolled = ticked.rolled;
+            return Passed {
+                state: self.with_companion(next),
+                rolled: rolled,
+            };
         }
-        self
+        Passed {
+            state: self,
+            rolled: Rolled::Nothing,
+        }
+    }
+
+    // The same for a list of events, which has answer bytes alone: what the tick says is dropped here. So the state goes
+    // through the list's loop with nothing beside it.
+    pub(crate) fn ticked(self) -> State
+        ensures { λ r. ⌜ Stills r (λ m. eventOn (self .power) second self m) ⌝ }
+    {
+        let passed = self.tick();
+        let state = passed.state;
+        state
     }
 
     // Main power lost, backup present: the transfer ends, both addresses become 0.

@@ -9,13 +9,14 @@ use mathlib.Core.Path.{_≡_}
 use mathlib.Core.Bool.{true, false}
 use mathlib.Core.List.{List}
 use lib.ListN.{length}
+use Rattle.calendar.specs.declared.Rolled.the-variants.{Nothing}
 use Rattle.device.specs.Limits.{wellFormed}
 use Rattle.device.specs.Step.{Step, stepOf}
 use Rattle.device.specs.declared.State.{State}
 
--- State and memory unchanged, "with answer byte 1".
+-- State and memory unchanged, "with answer byte 1"; and no field of the calendar.
 abbrev pub refusedBy : ℕ → State → List ℕ → Step
-refusedBy n s m = record { number = n; state = s; answer = 1; memory = m }
+refusedBy n s m = record { number = n; state = s; answer = 1; rolled = Nothing; memory = m }
 
 -- "Checked in the order of the numbers."
 pub record SingleEvent (s : State) (m : List ℕ) (e : ℕ) : Type 0 where

@@ -50,9 +50,12 @@ step-requires-7 c κs =
     let v = valid-facts _ (c .before .before .before .before .before .before .before .pre) in
     (in-field-test _ _ _ (v .year), lit< tt)
 
+highest-requires : tie.Need-highest-requires
+highest-requires c κs = search needs
+
 returns : tie.Need-returns
 returns c =
-    let year = c in
+    let year = c .before in
     let month = year .before in
     let date = month .before in
     let day = date .before in
@@ -60,7 +63,7 @@ returns c =
     let minutes = hours .before in
     let seconds = minutes .before in
     let length = seconds .before in
-    tick-of-steps (length .before .args .self) (length .length .ensures)
+    tick-of-steps (length .before .args .self) (valid-facts _ (length .before .pre)) (length .length .ensures)
     (seconds .step .ensures)
     (minutes .step2 .ensures)
     (hours .step3 .ensures)
@@ -68,6 +71,7 @@ returns c =
     (date .step5 .ensures)
     (month .step6 .ensures)
     (year .step7 .ensures)
+    (c .highest .ensures)
 
 pub tick-spec : {M : Type 1} → statement M
 tick-spec =
@@ -81,4 +85,5 @@ tick-spec =
     step-requires-5
     step-requires-6
     step-requires-7
+    highest-requires
     returns)

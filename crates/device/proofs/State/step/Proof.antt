@@ -20,8 +20,8 @@ returns c = rw (step-wrong-memory _ _ _ (c .before .if1 .taken), c .refused .ens
 is-well-formed-requires : tie.Need-is-well-formed-requires
 is-well-formed-requires c κs = search needs
 
-advance-requires : tie.Need-advance-requires
-advance-requires c κs = (ready _ _ (c .before .before .before .before .if1 .left) (sym (c .before .before .before .is-well-formed .ensures) ∙ c .before .before .if2 .taken), omega arith)
+tell-requires : tie.Need-tell-requires
+tell-requires c κs = (ready _ _ (c .before .before .before .before .if1 .left) (sym (c .before .before .before .is-well-formed .ensures) ∙ c .before .before .if2 .taken), omega arith)
 
 accepted-requires : tie.Need-accepted-requires
 accepted-requires c κs = search needs
@@ -30,7 +30,7 @@ same-length : tie.Need-same-length
 same-length c = search needs
 
 returns-2 : tie.Need-returns-2
-returns-2 c = rw (step-answered _ _ _ (c .before .before .before .before .before .before .before .before .before .if1 .left) (sym (c .before .before .before .before .before .before .before .before .is-well-formed .ensures) ∙ c .before .before .before .before .before .before .before .if2 .taken) (c .before .before .before .before .before .before .if3 .taken), c .accepted .ensures, c .before .before .before .before .advance .ensures .result, c .before .before .before .before .advance .ensures .memory)
+returns-2 c = rw (step-answered _ _ _ (c .before .before .before .before .before .before .before .before .before .if1 .left) (sym (c .before .before .before .before .before .before .before .before .is-well-formed .ensures) ∙ c .before .before .before .before .before .before .before .if2 .taken) (c .before .before .before .before .before .before .if3 .taken), c .accepted .ensures, c .before .before .before .before .tell .ensures .result, c .before .before .before .before .tell .ensures .memory)
 
 refused-requires-2 : tie.Need-refused-requires-2
 refused-requires-2 c κs = search needs
@@ -52,7 +52,7 @@ step-spec =
     refused-requires
     returns
     is-well-formed-requires
-    advance-requires
+    tell-requires
     accepted-requires
     same-length
     returns-2

@@ -1,8 +1,9 @@
 -- SPDX-License-Identifier: Apache-2.0
 -- A tick goes to the companion while a supply is present.
 -- Assumes nothing.
-use mathlib.Core.Path.{sym, _∙_}
+use mathlib.Core.Path.{refl, sym, _∙_}
 use borrow.Author.Needs.{needs}
+use Rattle.device.specs.Event.{rolledBy}
 use Rattle.device.proofs.Cases.{tick-supplied, tick-unsupplied}
 use Rattle.device.proofs.State.tick.Statement.{statement}
 use Rattle.device.proofs.State.tick.Tie as tie
@@ -17,10 +18,21 @@ with-companion-requires : tie.Need-with-companion-requires
 with-companion-requires c κs = search needs
 
 returns : tie.Need-returns
-returns c m = rw (tick-supplied (c .before .before .before .before .before .args .self) m (sym (c .before .before .before .is-supplied .ensures) ∙ c .before .before .if1 .taken), c .with-companion .ensures, c .before .tick .ensures)
+unfolding rolledBy
+returns c =
+    let s = c .before .before .before .before .before .before .args .self in
+    let h = sym (c .before .before .before .before .is-supplied .ensures) ∙ c .before .before .before .if1 .taken in
+    let t = c .before .before .tick .ensures in
+    record {
+      state = λ m. rw (tick-supplied s m h, c .with-companion .ensures, t) refl;
+      rolled = rw (h, t) refl;
+    }
 
 returns-2 : tie.Need-returns-2
-returns-2 c m = tick-unsupplied (c .before .before .before .args .self) m (sym (c .before .is-supplied .ensures) ∙ c .if1 .left)
+unfolding rolledBy
+returns-2 c =
+    let h = sym (c .before .is-supplied .ensures) ∙ c .if1 .left in
+    record { state = λ m. tick-unsupplied (c .before .before .before .args .self) m h; rolled = rw h refl }
 
 pub tick-spec : {M : Type 1} → statement M
 tick-spec =

@@ -13,8 +13,8 @@ start-requires c κs = search needs
 stop-requires : tie.Need-stop-requires
 stop-requires c κs = search needs
 
-tick-requires : tie.Need-tick-requires
-tick-requires c κs = search needs
+ticked-requires : tie.Need-ticked-requires
+ticked-requires c κs = search needs
 
 lose-requires : tie.Need-lose-requires
 lose-requires c κs = search needs
@@ -35,7 +35,7 @@ returns-2 c m = rw (c .before .match .keys2) (c .stop .ensures m)
 
 returns-3 : tie.Need-returns-3
 unfolding happening
-returns-3 c m = rw (c .before .match .keys3) (c .tick .ensures m)
+returns-3 c m = rw (c .before .match .keys3) (c .ticked .ensures m)
 
 returns-4 : tie.Need-returns-4
 unfolding happening
@@ -54,7 +54,7 @@ unclocked-spec =
     (tie.spec
     start-requires
     stop-requires
-    tick-requires
+    ticked-requires
     lose-requires
     lose-all-requires
     restore-requires
