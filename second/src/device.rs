@@ -3,6 +3,7 @@
 
 use crate::calendar::Calendar;
 use crate::registers::{self, PinFunction};
+use crate::rolled::Rolled;
 use crate::{MEMORY_BYTES, REGISTER_COUNT};
 
 /// "0 Start".
@@ -138,8 +139,17 @@ impl Device {
         }
     }
 
-    /// One event and its answer byte.
+    /// One event and its answer byte; what a tick says is dropped.
     pub fn event(&mut self, event: u8) -> u8 {
+        let (answer, _dropped) = self.event_told(event);
+        answer
+    }
+
+    /// One event, its answer byte and what rolled over. 02, number 4: "Let the
+    /// tick itself say the highest field that changed"; "answer bytes stay the
+    /// same". All other events say nothing.
+    pub fn event_told(&mut self, event: u8) -> (u8, Rolled) {
+        let mut rolled = Rolled::Nothing;
         // "Bit 0 is the line: for a Clock, low if the master or the device
         // pulls it low; for other events 1."
         let mut line_is_high = true;
@@ -148,13 +158,13 @@ impl Device {
             STOP => self.stop(),
             CLOCK_LOW => line_is_high = self.clock(false),
             CLOCK_HIGH => line_is_high = self.clock(true),
-            TICK => self.tick(),
+            TICK => rolled = self.tick(),
             POWER_LOST_WITH_BACKUP => self.power_lost_with_backup(),
             POWER_LOST_WITHOUT_BACKUP => self.power_lost_without_backup(),
             POWER_RETURNED => self.power_returned(),
             _ => panic!("events are 0 to 7"),
         }
-        self.answer(line_is_high)
+        (self.answer(line_is_high), rolled)
     }
 
     /// The events of a list, one by one.
@@ -164,6 +174,11 @@ impl Device {
             answers.push(self.event(*event));
         }
         answers
+    }
+
+    /// The same, with what rolled over at each event.
+    pub fn run_told(&mut self, events: &[u8]) -> Vec<(u8, Rolled)> {
+        events.iter().map(|event| self.event_told(*event)).collect()
     }
 
     /// True when no transfer is under way.
@@ -425,11 +440,14 @@ impl Device {
     // ----- ticks and power -----
 
     /// "A tick counts if OSCEN is 0 and power or backup is present." "A tick
-    /// that does not count changes nothing."
-    fn tick(&mut self) {
+    /// that does not count changes nothing." 02, number 4: "A tick that does not
+    /// count, or finds an invalid core, says nothing."
+    fn tick(&mut self) -> Rolled {
         let supplied = self.power != Power::Gone;
         if supplied && registers::oscillator_runs(&self.registers) {
-            registers::tick_that_counts(&mut self.registers, &mut self.core);
+            registers::tick_that_counts(&mut self.registers, &mut self.core)
+        } else {
+            Rolled::Nothing
         }
     }
 

@@ -9,6 +9,7 @@
 //!
 //! * [`calendar`]: the seven calendar bytes and the next second.
 //! * [`registers`]: the 15 registers, what a write stores, ticks, the alarm.
+//! * [`rolled`]: what a tick says about itself.
 //! * [`device`]: bus, memory and power; the events and their answers.
 //! * [`host`]: small helpers that play the bus master.
 //! * [`table`]: the cases K1 to K12 of 01, run over the bus.
@@ -19,11 +20,13 @@ pub mod device;
 pub mod generate;
 pub mod host;
 pub mod registers;
+pub mod rolled;
 pub mod table;
 
 pub use calendar::Calendar;
 pub use device::{Device, LogicalDevice, Phase, Power, Transfer};
 pub use registers::PinFunction;
+pub use rolled::Rolled;
 
 /// "8,192 bytes of FRAM".
 pub const MEMORY_BYTES: usize = 8192;

@@ -3,6 +3,7 @@
 //! ticks, the alarm, write protection and the function of the ACS pin.
 
 use crate::calendar::Calendar;
+use crate::rolled::Rolled;
 use crate::REGISTER_COUNT;
 
 /// All registers, 00h to 0Eh.
@@ -237,8 +238,10 @@ pub fn oscillator_runs(registers: &Registers) -> bool {
     !is_set(registers[CALIBRATION], OSCILLATOR_HALTED)
 }
 
-/// A tick that counts.
-pub fn tick_that_counts(registers: &mut Registers, core: &mut Calendar) {
+/// A tick that counts. It says "the highest field that changed" of the core (02,
+/// number 4); one that "finds an invalid core, says nothing".
+pub fn tick_that_counts(registers: &mut Registers, core: &mut Calendar) -> Rolled {
+    let before = *core;
     if core.is_valid() {
         advance(registers, core);
     }
@@ -248,6 +251,7 @@ pub fn tick_that_counts(registers: &mut Registers, core: &mut Calendar) {
     if !is_set(control, READ_CALENDAR) && !is_set(control, WRITE_CALENDAR) {
         calendar_registers_take_core(registers, core);
     }
+    Rolled::between(&before, core)
 }
 
 /// "A valid core goes to the next second". "Year 99 to 00 sets CF." "After an

@@ -1,7 +1,8 @@
 // SPDX-License-Identifier: Apache-2.0
 //! Reads raw event bytes on standard input, runs them on a fresh device and
 //! writes the raw answer bytes to standard output. With `--state` it prints
-//! instead a readable dump of the state after the last event.
+//! instead a readable dump of the state after the last event; with `--rolled`
+//! it writes instead one raw byte an event, the number of what rolled over.
 
 use second::table::calendar_text;
 use second::Device;
@@ -9,10 +10,11 @@ use std::io::{Read, Write};
 
 fn main() {
     let arguments: Vec<String> = std::env::args().skip(1).collect();
-    let print_state = match arguments.as_slice() {
-        [] => false,
-        [only] if only == "--state" => true,
-        _ => stop_with("usage: second-answers [--state] < events > answers"),
+    let wanted = match arguments.as_slice() {
+        [] => Wanted::Answers,
+        [only] if only == "--state" => Wanted::State,
+        [only] if only == "--rolled" => Wanted::Rolled,
+        _ => stop_with("usage: second-answers [--state | --rolled] < events > answers"),
     };
     let mut events = Vec::new();
     if std::io::stdin().read_to_end(&mut events).is_err() {
@@ -22,10 +24,24 @@ fn main() {
         stop_with("an event byte is above 7; nothing was run");
     }
     let mut device = Device::fresh();
-    let answers = device.run(&events);
-    if print_state {
-        print_device(&device);
-    } else if std::io::stdout().write_all(&answers).is_err() {
+    let told = device.run_told(&events);
+    match wanted {
+        Wanted::Answers => write_bytes(told.iter().map(|(answer, _)| *answer)),
+        Wanted::Rolled => write_bytes(told.iter().map(|(_, rolled)| rolled.number())),
+        Wanted::State => print_device(&device),
+    }
+}
+
+/// What is written to standard output.
+enum Wanted {
+    Answers,
+    State,
+    Rolled,
+}
+
+fn write_bytes(bytes: impl Iterator<Item = u8>) {
+    let bytes: Vec<u8> = bytes.collect();
+    if std::io::stdout().write_all(&bytes).is_err() {
         stop_with("the answers cannot be written");
     }
 }

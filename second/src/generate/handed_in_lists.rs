@@ -24,7 +24,8 @@ pub struct HandedInList {
 }
 
 impl HandedInList {
-    fn new(
+    /// A list made of a script; its memory is preset.
+    pub fn new(
         family: &'static str,
         name: String,
         state: StartingState,

@@ -7,6 +7,8 @@
 //! * [`random`]: noise and plausible traffic by weights.
 //! * [`handed_in`] and [`handed_in_random`]: lists that begin in a state handed
 //!   in, so with an invalid core too, which no events bring about.
+//! * [`ticks_told`]: short lists of ticks over every midnight of the century and
+//!   the ends of minutes and hours, to ask each tick what rolled over.
 //!
 //! What [`exhaustive`] holds; `tests/generators.rs` fails when the numbers are
 //! no longer true:
@@ -50,6 +52,14 @@
 //! | core-samples | 792 | 237,600 | every kind of fault with W, R, oscillator, supply |
 //! | register-samples | 528 | 146,784 | every kind of fault in 02h to 08h, W and R |
 //! | all | 2,000 | 536,704 | |
+//!
+//! What [`ticks_told`] holds:
+//!
+//! | family | lists | events | what it tries |
+//! |---|---|---|---|
+//! | midnights | 36,525 | 109,575 | every midnight of the century |
+//! | minute-ends | 10,080 | 30,240 | every minute of seven dates |
+//! | all | 46,605 | 139,815 | |
 
 mod exhaustive_bad_dates;
 mod exhaustive_bus;
@@ -70,6 +80,7 @@ mod structured_calendar;
 mod structured_companion;
 mod structured_lists;
 mod structured_refused;
+mod ticks_told_lists;
 mod transactions;
 
 pub use exhaustive_lists::exhaustive;
@@ -80,6 +91,7 @@ pub use sample_calendars::{invalid_calendars, valid_calendars};
 pub use script::Script;
 pub use starting_state::{any_state, StartingState};
 pub use structured_lists::structured;
+pub use ticks_told_lists::ticks_told;
 
 use crate::device::Device;
 
