@@ -9,7 +9,7 @@ fn main() {
         .ancestors()
         .find(|folder| folder.join("crates.txt").is_file())
         .unwrap_or_else(|| panic!("no folder above {here} has crates.txt"));
-    let archive = top.join("build/native/librig.a");
+    let archive = top.join("build/native/libfm3130.a");
     println!("cargo:rerun-if-changed={}", archive.display());
     if !archive.is_file() {
         eprintln!(
@@ -22,5 +22,5 @@ fn main() {
         "cargo:rustc-link-search=native={}",
         archive.parent().unwrap().display()
     );
-    println!("cargo:rustc-link-lib=static=rig");
+    println!("cargo:rustc-link-lib=static=fm3130");
 }

@@ -11,27 +11,26 @@ void device_fresh(struct device *device) {
     fm3130_fresh(device->image, sizeof device->image);
 }
 
-/* The list run on this device, with as many answers as events. */
-static uint64_t run(struct device *device, const uint8_t *events, uint64_t count,
-                    uint8_t *answers) {
+uint64_t device_number(struct device *device) {
+    uint8_t none[2] = {0, 0}; /* an empty buffer is any address; the two do not overlap */
     return fm3130_run(device->image, sizeof device->image, device->memory, sizeof device->memory,
-                      events, count, answers, count)
+                      &none[0], 0, &none[1], 0)
         .number;
 }
 
-uint64_t device_number(struct device *device) {
-    uint8_t none[2] = {0, 0}; /* an empty buffer is any address; the two do not overlap */
-    return run(device, &none[0], 0, &none[1]);
-}
-
-uint8_t device_do(struct device *device, uint8_t event) {
-    uint8_t answer = 0;
-    uint64_t number = run(device, &event, 1, &answer);
+struct told device_step(struct device *device, uint8_t event) {
+    uint8_t told[FM3130_TOLD_BYTES] = {0, 0};
+    uint64_t number = fm3130_step(device->image, sizeof device->image, device->memory,
+                                  sizeof device->memory, event, told, sizeof told);
     if (number != FM3130_OK) {
         fprintf(stderr, "fm3130-host: a tested device is refused: %s\n", number_words(number));
         abort();
     }
-    return answer;
+    return (struct told){told[0], told[1]};
+}
+
+uint8_t device_do(struct device *device, uint8_t event) {
+    return device_step(device, event).answer;
 }
 
 uint8_t device_pin(const struct device *device) {

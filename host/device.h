@@ -43,7 +43,16 @@ void device_fresh(struct device *device);
 /* The number that the list run would give for an empty list: 0, or 2 for an image that is none. */
 uint64_t device_number(struct device *device);
 
-/* Does one event and returns its answer. Image and event must have been tested. */
+/* What one event tells: its answer, and the field of the calendar that it changed. */
+struct told {
+    uint8_t answer;
+    uint8_t rolled; /* enum fm3130_rolled */
+};
+
+/* Does one event. Image and event must have been tested. */
+struct told device_step(struct device *device, uint8_t event);
+
+/* The same, for its answer alone. */
 uint8_t device_do(struct device *device, uint8_t event);
 
 /* An answer that shows the pin as it is now: a copy is asked by an event that changes nothing. */

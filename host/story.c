@@ -64,10 +64,11 @@ static void tell_gathered(struct story *story) {
         print_calendar(out, story->before);
         fputs(" -> ", out);
         print_calendar(out, story->device->image + IMAGE_CORE);
-        fputc('\n', out);
+        fprintf(out, ", %s passed\n", rolled_name(story->rolled));
     }
     story->loose = 0;
     story->ticks = 0;
+    story->rolled = FM3130_ROLLED_NOTHING;
 }
 
 /* What a slave byte names. */
@@ -227,7 +228,11 @@ static uint8_t tell_event(struct story *story, uint8_t event) {
         if (story->ticks++ == 0) {
             memcpy(story->before, story->device->image + IMAGE_CORE, sizeof story->before);
         }
-        return device_do(story->device, event);
+        struct told told = device_step(story->device, event);
+        if (told.rolled > story->rolled) {
+            story->rolled = told.rolled;
+        }
+        return told.answer;
     }
     tell_gathered(story);
     return tell_other(story, event);

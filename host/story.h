@@ -19,6 +19,7 @@ struct story {
     unsigned loose;      /* clocks outside a transfer that are not told yet */
     unsigned long ticks; /* ticks that are not told yet */
     uint8_t before[7];   /* the calendar before them */
+    uint8_t rolled;      /* the highest field that one of them changed, enum fm3130_rolled */
     int last_read;       /* the last whole byte that the device sent, or -1 */
 };
 

@@ -26,6 +26,13 @@ const char *phase_name(unsigned phase) {
     return phase < sizeof names / sizeof names[0] ? names[phase] : "no phase";
 }
 
+const char *rolled_name(unsigned rolled) {
+    static const char *const names[] = {
+        "nothing", "a second", "a minute", "an hour", "a date", "a month", "a year",
+    };
+    return rolled < sizeof names / sizeof names[0] ? names[rolled] : "no field";
+}
+
 /* 00h: every bit by its name. */
 static void print_control(FILE *out, unsigned byte) {
     static const char *const names[] = {"LB", "AF", "CF", "POR", "AEN", "CAL", "W", "R"};

@@ -14,6 +14,9 @@ const char *register_name(unsigned address);
 /* The byte under way. */
 const char *phase_name(unsigned phase);
 
+/* What passed, by the highest field that ticks changed: enum fm3130_rolled. */
+const char *rolled_name(unsigned rolled);
+
 /* What a byte means in a register. */
 void print_register(FILE *out, unsigned address, unsigned byte);
 

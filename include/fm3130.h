@@ -13,6 +13,7 @@
  *
  *   fm3130_fresh        makes the image of a fresh device
  *   fm3130_run          does a list of events on a device
+ *   fm3130_step         does one event, and says which field of the calendar it changed
  *   fm3130_view_number  whether a part of the memory or of the registers can be viewed
  *   fm3130_view         that part itself, never a copy (an inline function, below)
  *
@@ -42,9 +43,8 @@
  *
  * What is proved: for all lengths and bytes, what is returned and what is left in every buffer is
  * one definition of what was given, so no second outcome is possible. The contract is named at
- * each function; its definition stands in crates/rig/specs, and that it leaves no choice is proved
- * in crates/rig/proofs/Unique.antt. Not proved: the compiler, and the inline function in this
- * header, which is tested (tests/c).
+ * each function, with the file that defines it, and that it leaves no choice is proved too. Not
+ * proved: the compiler, and the inline function in this header, which is tested (tests/c).
  */
 #ifndef FM3130_H
 #define FM3130_H
@@ -62,9 +62,9 @@ extern "C" {
  *   PATCH  nothing that a host can see, but for errors that were put right
  */
 #define FM3130_VERSION_MAJOR 0
-#define FM3130_VERSION_MINOR 1
+#define FM3130_VERSION_MINOR 2
 #define FM3130_VERSION_PATCH 0
-#define FM3130_VERSION "0.1.0"
+#define FM3130_VERSION "0.2.0"
 
 /* Sizes in bytes. The registers are the front of the image. */
 #define FM3130_IMAGE_BYTES 64
@@ -112,11 +112,29 @@ enum fm3130_number {
     FM3130_WRONG_STATE = 2,      /* image is not 64 bytes, or no well-formed state writes it
                                     (the viewer tests length only) */
     FM3130_UNKNOWN_EVENT = 3,    /* some event byte is above 7 */
-    FM3130_SHORT_ANSWERS = 4,    /* answers shorter than events */
+    FM3130_SHORT_ANSWERS = 4,    /* answers shorter than events; fm3130_step: told shorter than
+                                    two bytes */
     FM3130_UNKNOWN_SELECTOR = 5, /* viewer: selector neither 0 (memory) nor 1 (registers) */
     FM3130_PAST_THE_END = 6      /* viewer: start + length (exact sum) passes the end of the
                                     chosen bytes */
 };
+
+/*
+ * The fields of the calendar that a tick can change, the second byte that fm3130_step tells: the
+ * highest that changed. The day of the week is none of them.
+ */
+enum fm3130_rolled {
+    FM3130_ROLLED_NOTHING = 0, /* no tick, one that does not count, or an invalid calendar */
+    FM3130_ROLLED_SECONDS = 1,
+    FM3130_ROLLED_MINUTES = 2,
+    FM3130_ROLLED_HOURS = 3,
+    FM3130_ROLLED_DATE = 4,
+    FM3130_ROLLED_MONTH = 5,
+    FM3130_ROLLED_YEAR = 6
+};
+
+/* What fm3130_step tells: the answer byte, then enum fm3130_rolled. */
+#define FM3130_TOLD_BYTES 2
 
 /* The viewer's selectors. */
 enum fm3130_selector {
@@ -173,6 +191,32 @@ uint64_t fm3130_fresh(uint8_t *image, uint64_t image_length);
 struct fm3130_ran fm3130_run(uint8_t *image, uint64_t image_length, uint8_t *memory,
                              uint64_t memory_length, const uint8_t *events, uint64_t events_length,
                              uint8_t *answers, uint64_t answers_length);
+
+/*
+ * Does one event on a device, and says which field of the calendar it changed: so an event printer
+ * need not compare calendars to see whether an hour passed. Image, memory and answer byte are those
+ * of fm3130_run on the list of this one event.
+ *
+ *   image    image_length bytes, must be 64 and an image as fm3130_run takes it; read and written
+ *   memory   memory_length bytes, must be 8,192, any values; read and written
+ *   event    enum fm3130_event
+ *   told     told_length bytes, at least FM3130_TOLD_BYTES; written
+ *
+ * Returns  image              memory          told
+ *   0      the state after    the bytes       the answer byte, then enum fm3130_rolled; bytes past
+ *          the event          after it        them are unchanged
+ *   1 to 4 unchanged          unchanged       unchanged
+ *
+ *   1      memory_length is not 8,192
+ *   2      image_length is not 64, or no well-formed state writes the image
+ *   3      event is above 7
+ *   4      told_length is less than 2
+ *
+ * Proved: SingleSettled, crates/single/specs/Single.antt. Allocates nothing, keeps nothing,
+ * thread-safe on distinct buffers.
+ */
+uint64_t fm3130_step(uint8_t *image, uint64_t image_length, uint8_t *memory, uint64_t memory_length,
+                     uint64_t event, uint8_t *told, uint64_t told_length);
 
 /*
  * Whether a part of the memory or of the registers can be viewed.

@@ -14,7 +14,7 @@ fail() { printf 'fuzz: %s\n' "$*" >&2; exit 1; }
 [ $# -eq 1 ] || fail "usage: fuzz.sh SECONDS"
 seconds=$1
 cd "$(dirname "$0")/.."
-archive=build/native/librig.a
+archive=build/native/libfm3130.a
 out=build/fuzz
 log=$out/log.txt
 [ -f "$archive" ] || fail "$archive is missing; make it by \`make lib\`"

@@ -24,6 +24,15 @@ mod foreign {
             answers_length: u64,
         ) -> Ran;
         pub fn fm3130_fresh(image: *mut u8, image_length: u64) -> u64;
+        pub fn fm3130_step(
+            image: *mut u8,
+            image_length: u64,
+            memory: *mut u8,
+            memory_length: u64,
+            event: u64,
+            told: *mut u8,
+            told_length: u64,
+        ) -> u64;
         pub fn fm3130_view_number(
             image: *const u8,
             image_length: u64,
@@ -49,6 +58,22 @@ pub fn run(image: &mut [u8], memory: &mut [u8], events: &[u8], answers: &mut [u8
             events.len() as u64,
             answers.as_mut_ptr(),
             answers.len() as u64,
+        )
+    }
+}
+
+/// One event; the number of 01's table.
+pub fn step(image: &mut [u8], memory: &mut [u8], event: u64, told: &mut [u8]) -> u64 {
+    // SAFETY: three slices of Rust's are non-null and do not overlap, and their lengths are their own.
+    unsafe {
+        foreign::fm3130_step(
+            image.as_mut_ptr(),
+            image.len() as u64,
+            memory.as_mut_ptr(),
+            memory.len() as u64,
+            event,
+            told.as_mut_ptr(),
+            told.len() as u64,
         )
     }
 }

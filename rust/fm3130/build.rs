@@ -1,5 +1,5 @@
 // SPDX-License-Identifier: Apache-2.0
-//! Links the proved archive, `build/native/librig.a` below the top of the workspace.
+//! Links the proved archive, `build/native/libfm3130.a` below the top of the workspace.
 
 use std::env;
 use std::path::{Path, PathBuf};
@@ -11,7 +11,7 @@ const MARK_OF_THE_TOP: &str = "crates.txt";
 const FOLDER_OF_THE_ARCHIVE: &str = "build/native";
 
 /// The archive's file name.
-const ARCHIVE: &str = "librig.a";
+const ARCHIVE: &str = "libfm3130.a";
 
 fn main() {
     println!("cargo::rerun-if-changed=build.rs");
@@ -42,5 +42,5 @@ fn link_archive_below(top: &Path) {
         return;
     }
     println!("cargo::rustc-link-search=native={}", folder.display());
-    println!("cargo::rustc-link-lib=static=rig");
+    println!("cargo::rustc-link-lib=static=fm3130");
 }

@@ -23,4 +23,7 @@ void check_equal(const char *what, uint64_t is, uint64_t must_be);
  */
 unsigned long check_frames(const char *frames, const char *lines);
 
+/* fm3130_step: one event, and the field of the calendar that it changed. */
+void check_steps(void);
+
 #endif

@@ -4,8 +4,8 @@
  * official archive for x86-64 (the real artifact) and with the one for this machine.
  *
  * K12's exact run, whole and in pieces; every refusal with untouched buffers; their order; the
- * fresh image; the viewer's number and the inline viewer; then some 260,000 events against the
- * second program (frames.c). The first difference ends it with status 1.
+ * fresh image; the viewer's number and the inline viewer; one event by itself (step.c); then some
+ * 260,000 events against the second program (frames.c). The first difference ends it with status 1.
  */
 #include <stdarg.h>
 #include <stdio.h>
@@ -329,6 +329,7 @@ int main(int count, char **words) {
     check_order();
     check_fresh();
     check_views();
+    check_steps();
     unsigned long events = check_frames(words[1], words[2]);
     if (events < 100000) {
         differ("only %lu events in %s, must be at least 100000", events, words[1]);

@@ -28,6 +28,16 @@ extern "C" {
 
     fn fm3130_fresh(image: *mut u8, image_length: u64) -> u64;
 
+    fn fm3130_step(
+        image: *mut u8,
+        image_length: u64,
+        memory: *mut u8,
+        memory_length: u64,
+        event: u64,
+        told: *mut u8,
+        told_length: u64,
+    ) -> u64;
+
     fn fm3130_view_number(
         image: *const u8,
         image_length: u64,
@@ -63,6 +73,28 @@ pub fn run(
     };
     // The count is the number of events, so it is a length of a slice and fits.
     Refusal::outcome_of(ran.number).map(|()| ran.count as usize)
+}
+
+/// Does one event; its answer byte and the number of the field go to the first bytes of `told`.
+pub fn step(
+    image: &mut [u8],
+    memory: &mut [u8],
+    event: u64,
+    told: &mut [u8],
+) -> Result<(), Refusal> {
+    // SAFETY: as in `run`: the pointers and lengths of live, exclusive slices.
+    let number = unsafe {
+        fm3130_step(
+            image.as_mut_ptr(),
+            image.len() as u64,
+            memory.as_mut_ptr(),
+            memory.len() as u64,
+            event,
+            told.as_mut_ptr(),
+            told.len() as u64,
+        )
+    };
+    Refusal::outcome_of(number)
 }
 
 /// Writes the fresh image.

@@ -3,11 +3,12 @@
 
 use std::fmt;
 
-use crate::answer::Pin;
+use crate::answer::{Answer, Pin};
 use crate::archive;
 use crate::calendar::Calendar;
 use crate::entries;
 use crate::refusal::Refusal;
+use crate::rolled::{Rolled, Told};
 use crate::state::{Phase, Power, State};
 use crate::{IMAGE_BYTES, MEMORY_BYTES, REGISTER_COUNT};
 
@@ -122,6 +123,39 @@ impl Device {
         let mut answer = [0];
         self.run_into(&[event], &mut answer)?;
         Ok(answer[0])
+    }
+
+    /// Does one event; returns its answer, and the highest field of the calendar that it changed.
+    ///
+    /// # Errors
+    ///
+    /// [`Refusal::UnknownEvent`]; then nothing was done.
+    ///
+    /// ```
+    /// use fm3130::{event, Device, Rolled};
+    ///
+    /// let mut device = Device::fresh();
+    /// // Start, D0h, 01h, 00h, Stop: the oscillator runs.
+    /// let mut events = vec![event::START];
+    /// for byte in [0xD0, 0x01, 0x00] {
+    ///     events.extend(event::written_byte(byte));
+    /// }
+    /// events.push(event::STOP);
+    /// device.run(&events)?;
+    /// for _ in 0..59 {
+    ///     assert_eq!(device.step_told(event::TICK)?.rolled, Rolled::Seconds);
+    /// }
+    /// assert_eq!(device.step_told(event::TICK)?.rolled, Rolled::Minutes);
+    /// # Ok::<(), fm3130::Refusal>(())
+    /// ```
+    pub fn step_told(&mut self, event: u8) -> Result<Told, Refusal> {
+        let mut told = [0; 2];
+        entries::step(&mut self.image, &mut self.memory[..], event, &mut told)?;
+        let [answer, field] = told;
+        Ok(Told {
+            answer: Answer(answer),
+            rolled: Rolled::of_number(field),
+        })
     }
 
     /// The state image: its first 15 bytes are the registers.

@@ -35,6 +35,37 @@ pub fn run(
     archive::run(image, memory, events, answers)
 }
 
+/// Does one event on a state image and a memory; its answer byte and the number of the field of the
+/// calendar that it changed ([`crate::Rolled`]) go to the first two bytes of `told`, the others stay.
+///
+/// # Errors
+///
+/// [`Refusal::MemoryLength`], [`Refusal::Image`], [`Refusal::UnknownEvent`] or
+/// [`Refusal::ShortAnswers`] (fewer than two bytes), the first that applies; then no buffer has
+/// changed.
+///
+/// ```
+/// use fm3130::{event, Refusal};
+///
+/// let (mut image, mut memory, mut told) = ([0; 64], [0; 8192], [0xEE; 3]);
+/// fm3130::fresh(&mut image)?;
+/// fm3130::step(&mut image, &mut memory, event::TICK, &mut told)?;
+/// assert_eq!(told, [5, 0, 0xEE]); // the oscillator of a fresh device is halted
+/// assert_eq!(
+///     fm3130::step(&mut image, &mut memory, event::TICK, &mut told[..1]),
+///     Err(Refusal::ShortAnswers)
+/// );
+/// # Ok::<(), Refusal>(())
+/// ```
+pub fn step(
+    image: &mut [u8],
+    memory: &mut [u8],
+    event: u8,
+    told: &mut [u8],
+) -> Result<(), Refusal> {
+    archive::step(image, memory, u64::from(event), told)
+}
+
 /// Writes the image of the fresh state: power on, no transfer, both addresses 0.
 ///
 /// # Errors

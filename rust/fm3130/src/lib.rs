@@ -10,7 +10,8 @@
 //! * [`event`] names the event bytes; [`Answer`] reads the answer bytes; [`selector`] names what a
 //!   viewer can show.
 //! * [`State`], [`Calendar`], [`Pin`] and [`registers`] say in words what a state holds.
-//! * [`run`], [`fresh`] and [`view`] are the archive's entries on slices of any length.
+//! * [`Rolled`] says which field of the calendar a tick changed.
+//! * [`run`], [`step`], [`fresh`] and [`view`] are the archive's entries on slices of any length.
 //! * [`Refusal`] is why an entry did nothing, with 01's number.
 //!
 //! No function of this crate panics, whatever it is given.
@@ -42,14 +43,16 @@ mod entries;
 pub mod event;
 mod refusal;
 pub mod registers;
+mod rolled;
 pub mod selector;
 mod state;
 
 pub use answer::{Answer, Pin, PinFunction};
 pub use calendar::Calendar;
 pub use device::Device;
-pub use entries::{fresh, run, view};
+pub use entries::{fresh, run, step, view};
 pub use refusal::Refusal;
+pub use rolled::{Rolled, Told};
 pub use state::{Phase, Power, Side, State};
 
 /// The length of a state image.

@@ -1,7 +1,7 @@
 // SPDX-License-Identifier: Apache-2.0
 //! One event and all that is known about it.
 
-use fm3130::{event, Answer, Phase, Pin, State};
+use fm3130::{event, Answer, Phase, Pin, Rolled, State};
 
 /// An event that is no tick: what was before, what the device answered, what is after.
 #[derive(Clone, Copy, Debug)]
@@ -48,6 +48,8 @@ pub struct TickRun {
     pub before: State,
     /// The state after the last.
     pub after: State,
+    /// The highest field of the calendar that one of them changed.
+    pub rolled: Rolled,
     /// The ticks, counted from 1, after which the pin was another than before.
     pub pin_changes: Vec<(u64, Pin)>,
 }

@@ -1,7 +1,7 @@
 // SPDX-License-Identifier: Apache-2.0
 //! Lets a device do the events of a source, chunk by chunk.
 
-use fm3130::{event, Answer, Device, Pin, Refusal};
+use fm3130::{event, Answer, Device, Pin, Refusal, Rolled};
 
 use super::moment::{Moment, TickRun};
 use crate::failure::{Failure, Outcome};
@@ -102,7 +102,7 @@ fn play_event(
     Ok(())
 }
 
-/// Does a run of ticks at once.
+/// Does a run of ticks, one by one: each says which field of the calendar it changed.
 fn play_ticks(
     device: &mut Device,
     ticks: &[u8],
@@ -110,11 +110,17 @@ fn play_ticks(
     outputs: &mut Outputs,
 ) -> Outcome {
     let before = device.state();
-    device.run_into(ticks, answers).map_err(refused)?;
+    let mut rolled = Rolled::Nothing;
+    for (tick, answer) in ticks.iter().zip(answers.iter_mut()) {
+        let told = device.step_told(*tick).map_err(refused)?;
+        *answer = told.answer.0;
+        rolled = rolled.max(told.rolled);
+    }
     let run = TickRun {
         count: ticks.len() as u64,
         before,
         after: device.state(),
+        rolled,
         pin_changes: pin_changes(before.pin(), answers),
     };
     for observer in &mut outputs.observers {

@@ -3,7 +3,7 @@
 
 use std::fmt;
 
-use fm3130::{registers, Pin, Power, State};
+use fm3130::{registers, Pin, Power, Rolled, State};
 
 use super::moment::TickRun;
 
@@ -16,6 +16,8 @@ pub struct TickReport {
     pub before: State,
     /// The state after the last.
     pub after: State,
+    /// The highest field of the calendar that one of them changed.
+    pub rolled: Rolled,
     /// The ticks, counted from 1, after which the pin was another than before.
     pub pin_changes: Vec<(u64, Pin)>,
     /// The clocks of the byte under way, if there is one.
@@ -29,6 +31,7 @@ impl TickReport {
             count: run.count,
             before: run.before,
             after: run.after,
+            rolled: run.rolled,
             pin_changes: run.pin_changes.clone(),
             inside,
         }
@@ -43,6 +46,7 @@ impl TickReport {
         self.pin_changes.extend(later);
         self.count += run.count;
         self.after = run.after;
+        self.rolled = self.rolled.max(run.rolled);
     }
 
     /// Why the calendar stood still.
@@ -76,10 +80,14 @@ impl fmt::Display for TickReport {
         if let Some(clocks) = self.inside {
             write!(formatter, " after {clocks} clocks of a byte")?;
         }
-        if self.before.core == self.after.core {
+        if self.rolled == Rolled::Nothing {
             return write!(formatter, ": {}", self.reason_of_standstill());
         }
-        write!(formatter, ": {} -> {}", self.before.core, self.after.core)?;
+        write!(
+            formatter,
+            ": {} -> {}, {}",
+            self.before.core, self.after.core, self.rolled
+        )?;
         for words in self.flags_set() {
             write!(formatter, ", {words}")?;
         }
@@ -97,11 +105,14 @@ mod tests {
 
     fn run(device: &mut Device, count: u64, pin_changes: Vec<(u64, Pin)>) -> TickRun {
         let before = device.state();
-        device.run(&vec![event::TICK; count as usize]).unwrap();
+        let rolled = (0..count)
+            .map(|_| device.step_told(event::TICK).unwrap().rolled)
+            .max();
         TickRun {
             count,
             before,
             after: device.state(),
+            rolled: rolled.unwrap_or(Rolled::Nothing),
             pin_changes,
         }
     }
@@ -132,7 +143,7 @@ mod tests {
         report.extend(&run(&mut device, 15, vec![(3, alarm)]));
         assert_eq!(
             report.to_string(),
-            "65 ticks: 00:00:00, 01/01/00, day 1 -> 00:01:05, 01/01/00, day 1; \
+            "65 ticks: 00:00:00, 01/01/00, day 1 -> 00:01:05, 01/01/00, day 1, a minute passed; \
              ACS pin after tick 53: alarm, pulled low"
         );
     }
