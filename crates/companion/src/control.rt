@@ -40,7 +40,7 @@ pub(crate) fn flags_after(control: u8, byte: u8) -> u8
 }
 
 // Whether W falls in a write of 00h.
-pub fn w_falls(old: u8, byte: u8) -> bool
+pub(crate) fn w_falls(old: u8, byte: u8) -> bool
     ensures { λ r. ⌜ r ≡ wFalls old byte ⌝ }
 {
     has(old, W) & !has(byte, W)
