@@ -1,7 +1,8 @@
 // SPDX-License-Identifier: Apache-2.0
 //! What the documents say of the crates is so.
 //!
-//! * Every name in docs/STATEMENTS.md exists: definitions, functions, theorems, edits, families of lists.
+//! * Every name in docs/STATEMENTS.md and docs/AUDIT.md exists: definitions, functions, theorems, edits, families of
+//!   lists.
 //! * Its tables have every public function, as an entry or as another, and every `requires` of one.
 
 use std::collections::BTreeSet;
@@ -86,18 +87,28 @@ fn fault(name: &str) -> Option<String> {
     }
 }
 
-#[test]
-fn every_name_in_the_statements_exists() {
-    let text = text_of(&top().join("docs/STATEMENTS.md")).unwrap();
+/// Holds every name in a page of docs/, which has more than `few` of them, to the files.
+fn hold(page: &str, few: usize) {
+    let text = text_of(&top().join("docs").join(page)).unwrap();
     let names: Vec<&str> = text
         .split('`')
         .skip(1)
         .step_by(2)
         .filter(|span| span.contains('/'))
         .collect();
-    assert!(names.len() > 200, "{} names are few", names.len());
+    assert!(names.len() > few, "{} names are few", names.len());
     let faults: Vec<String> = names.iter().filter_map(|name| fault(name)).collect();
     assert!(faults.is_empty(), "{}", faults.join("\n"));
+}
+
+#[test]
+fn every_name_in_the_statements_exists() {
+    hold("STATEMENTS.md", 200);
+}
+
+#[test]
+fn every_name_in_the_auditors_page_exists() {
+    hold("AUDIT.md", 15);
 }
 
 #[test]
