@@ -7,9 +7,11 @@
 //! * [`lists`]: a list of events on both, whole and in pieces.
 //! * [`standin`]: what the proved stand-in is run on, and what it has to print.
 //! * [`almanac`]: what the proved calendar has to print.
+//! * [`edits`]: what the prover said of each edit that it must refuse.
 
 pub mod almanac;
 pub mod archive;
+pub mod edits;
 pub mod image;
 pub mod lists;
 pub mod standin;

@@ -4,17 +4,12 @@
 //! * Every name in docs/STATEMENTS.md and docs/AUDIT.md exists: definitions, functions, theorems, edits, families of
 //!   lists.
 //! * Its tables have every public function, as an entry or as another, and every `requires` of one.
+//! * docs/EDITS.md has every edit, with the rule that it breaks.
 
+use compare::edits::{self, top};
 use std::collections::BTreeSet;
 use std::fs;
 use std::path::{Path, PathBuf};
-
-fn top() -> PathBuf {
-    Path::new(env!("CARGO_MANIFEST_DIR"))
-        .parent()
-        .unwrap()
-        .to_path_buf()
-}
 
 fn text_of(path: &Path) -> Option<String> {
     fs::read_to_string(path).ok()
@@ -232,4 +227,19 @@ fn public_functions_are_told_from_others() {
         .map(|each| (each.name.as_str(), each.asks))
         .collect();
     assert_eq!(told, [("x/src/y.c", true), ("x/src/y.d", false)]);
+}
+
+#[test]
+fn every_edit_is_listed_with_its_rule() {
+    let page = text_of(&top().join("docs/EDITS.md")).unwrap();
+    let listed: Vec<(String, String)> = edits::rows(&page)
+        .into_iter()
+        .map(|row| (row.edit, row.rule))
+        .collect();
+    let there: Vec<(String, String)> = edits::all(&top())
+        .iter()
+        .map(|edit| (edit.path(), edit.rule.clone()))
+        .collect();
+    assert!(there.len() > 70, "{} edits are few", there.len());
+    assert_eq!(listed, there, "`rt must-fail`, then `make edits`");
 }
