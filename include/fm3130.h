@@ -169,6 +169,11 @@ uint64_t fm3130_fresh(uint8_t *image, uint64_t image_length);
  * first event is done. A list may be cut into pieces at any place, each piece a call: the outcome
  * is the same. An empty list is accepted.
  *
+ * A data byte is not acknowledged, and ends its transfer, in two cases. Where its address is
+ * protected: nothing is stored, and the address steps on. Where it is a write to 00h that would load
+ * a date or time that does not exist: W stays 1, 00h, 02h to 08h and the calendar stay, and the
+ * address steps on, so the host can put one register right and clear W again.
+ *
  *   image    image_length bytes, must be 64 and an image that fm3130_fresh or fm3130_run left, or
  *            any other that keeps the limits in docs/IMAGE.md; read and written
  *   memory   memory_length bytes, must be 8,192, any values; read and written
