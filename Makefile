@@ -11,7 +11,7 @@ SHELL := bash
 
 # The crates that export functions to C, each an object of its own in libfm3130.a: build/native for this machine,
 # build/official for x86-64.
-ARCHIVES := rig single
+ARCHIVES := rig single trim
 
 # Where `make install` puts the library; DESTDIR goes before it.
 PREFIX ?= /usr/local
@@ -26,7 +26,6 @@ STRICT := -O2 -Wall -Wextra -Wpedantic -Werror -Iinclude
 C99 := -std=c99 $(STRICT)
 VERSION := $(shell sed -n 's/^.define FM3130_VERSION "\(.*\)"$$/\1/p' include/fm3130.h)
 HOST := build/host/fm3130-host
-CTESTS := tests/c/official.c tests/c/step.c tests/c/frames.c
 SESSION := scripts/proving-session.bus
 
 # Frames of events, and the lines that the second program wrote for them.
@@ -62,6 +61,7 @@ demo: setup lib host ## play a proving session through the C host, in words, and
 		'vcd  the wires, for GTKWave or PulseView'
 
 lib: archives ## the proved archives: build/native (this machine), build/official (x86-64); for C: build/lib
+	@for folder in build/native build/official; do tools/join-archives.sh "$$folder" $(ARCHIVES); done
 	@mkdir -p build/lib/x86_64
 	@cp build/official/libfm3130.a build/lib/x86_64/libfm3130.a
 	@cp $(if $(filter x86_64,$(MACHINE)),build/official,build/native)/libfm3130.a build/lib/libfm3130.a
@@ -69,7 +69,6 @@ lib: archives ## the proved archives: build/native (this machine), build/officia
 
 archives:
 	@for crate in $(ARCHIVES); do tools/native-archive.sh "$$crate"; done
-	@for folder in build/native build/official; do tools/join-archives.sh $$folder $(ARCHIVES); done
 
 install: lib ## the library for C: header, archive and fm3130.pc below DESTDIR and PREFIX
 	@install -d "$(DESTDIR)$(PREFIX)/include" "$(DESTDIR)$(PREFIX)/lib/pkgconfig"
@@ -84,8 +83,8 @@ host: lib ## the rig's host program in C: build/host/fm3130-host
 
 ctest: lib host ## the archives through the C header (the official one too), the host, the guide's program
 	@mkdir -p build/ctest
-	@$(CC) $(C99) $(CTESTS) build/native/libfm3130.a -o build/ctest/native
-	@$(CC_X86_64) $(C99) -static $(CTESTS) build/official/libfm3130.a -o build/ctest/official
+	@$(CC) $(C99) tests/c/*.c build/native/libfm3130.a -o build/ctest/native
+	@$(CC_X86_64) $(C99) -static tests/c/*.c build/official/libfm3130.a -o build/ctest/official
 	@$(CXX) $(STRICT) tests/c/plusplus.cc build/lib/libfm3130.a -o build/ctest/plusplus
 	@build/ctest/native $(FRAMES)
 	@tools/run-x86-64.sh build/ctest/official $(FRAMES)

@@ -17,6 +17,12 @@
  *   fm3130_view_number  whether a part of the memory or of the registers can be viewed
  *   fm3130_view         that part itself, never a copy (an inline function, below)
  *
+ * Three more functions, at the end, are about another maker's clock and need no device:
+ *
+ *   fm3130_trim_check    judges a trim setting that any program proposes
+ *   fm3130_trim_residue  what a setting leaves of a measured error
+ *   fm3130_trim_propose  proposes a setting, which is always accepted
+ *
  * A first call (docs/GUIDE.md has a whole program):
  *
  *   static uint8_t image[FM3130_IMAGE_BYTES], memory[FM3130_MEMORY_BYTES];
@@ -274,6 +280,89 @@ static inline const uint8_t *fm3130_view(const uint8_t *image, const uint8_t *me
     }
     return (selector == FM3130_VIEW_MEMORY ? memory : image) + start;
 }
+
+/*
+ * Trim settings of another maker's clock (document 002), which knows nothing of a device.
+ *
+ * Its crystal's cycles are measured over a 64-minute cycle, minus 125,829,120: that is the error,
+ * from -20,000 to 20,000. A setting is a sign and a code of 0 to 31, which says how many steps: plus
+ * adds 512 cycles a step, minus takes 256 away. What is left of the error is its residue. A setting
+ * is accepted exactly if no setting leaves a residue nearer to zero; several may be.
+ */
+
+/* Signs. The values are those of the sign bit in that clock's control register. */
+enum fm3130_trim_sign {
+    FM3130_TRIM_MINUS = 0, /* minus: takes 256 cycles away a step */
+    FM3130_TRIM_PLUS = 1   /* plus: adds 512 cycles a step */
+};
+
+/*
+ * Verdicts on a setting. 2 to 4 are refusals; they are tested in this order, and the first that
+ * applies is given.
+ */
+enum fm3130_trim_verdict {
+    FM3130_TRIM_ACCEPTED = 0,           /* no setting leaves a smaller distance from zero */
+    FM3130_TRIM_NOT_NEAREST = 1,        /* some setting leaves a smaller distance from zero */
+    FM3130_TRIM_UNKNOWN_SIGN = 2,       /* sign is neither 0 nor 1 */
+    FM3130_TRIM_ERROR_OUT_OF_RANGE = 3, /* error is not from -20,000 to 20,000 */
+    FM3130_TRIM_CODE_ABOVE_31 = 4       /* code is above 31 */
+};
+
+/* What the proposer returns where it refuses: one more than the greatest setting. */
+#define FM3130_TRIM_REFUSED 64
+
+/*
+ * Judges a setting, whoever proposed it.
+ *
+ *   error    the measured error in cycles, any value
+ *   sign     enum fm3130_trim_sign, any value
+ *   code     how many steps, any value
+ *
+ * Returns enum fm3130_trim_verdict
+ *   0      accepted: the error is in range, the code at most 31, and no setting with a code of at
+ *          most 31 leaves a smaller distance from zero
+ *   1      error and setting are as they should be, but some setting leaves a smaller distance
+ *   2      refused: sign is neither 0 (minus) nor 1 (plus)
+ *   3      refused: error is below -20,000 or above 20,000
+ *   4      refused: code is above 31
+ *
+ * So error 128 accepts code 0 with either sign and minus 1; error -600 accepts plus 1 alone.
+ *
+ * Proved: CheckNumberSettled, crates/trim/specs/Entries.antt. Allocates nothing, keeps nothing,
+ * thread-safe.
+ */
+uint64_t fm3130_trim_check(int32_t error, uint64_t sign, uint64_t code);
+
+/*
+ * What a setting leaves of an error: error + 512 * code for plus, error - 256 * code for minus.
+ *
+ *   error, sign, code   as above, any values
+ *
+ * Returns the residue, -27,936 to 35,872; and 0 where fm3130_trim_check, on the same inputs,
+ * returns 2, 3 or 4.
+ *
+ * Error -600 with plus 1 leaves -88.
+ *
+ * Proved: ResidueSettled, crates/trim/specs/Entries.antt. Allocates nothing, keeps nothing,
+ * thread-safe.
+ */
+int32_t fm3130_trim_residue(int32_t error, uint64_t sign, uint64_t code);
+
+/*
+ * Proposes a setting for an error.
+ *
+ *   error    the measured error in cycles, any value
+ *
+ * Returns
+ *   0 to 63   a setting, as bits 5 to 0 of that clock's control register hold it: the sign is the
+ *             number / 32, the code the number % 32. fm3130_trim_check returns 0 for it.
+ *   64        FM3130_TRIM_REFUSED: error is below -20,000 or above 20,000
+ *
+ * Proved: ProposeNumberSettled, crates/trim/specs/Entries.antt; that the setting is always
+ * accepted: proposed-number-accepted, crates/trim/proofs/Numbers.antt. Allocates nothing, keeps
+ * nothing, thread-safe.
+ */
+uint64_t fm3130_trim_propose(int32_t error);
 
 #ifdef __cplusplus
 }

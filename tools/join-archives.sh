@@ -1,25 +1,30 @@
 #!/bin/sh
 # SPDX-License-Identifier: Apache-2.0
-# join-archives.sh FOLDER CRATE...: one archive for C, FOLDER/libfm3130.a, of the objects in FOLDER/libCRATE.a.
+# join-archives.sh FOLDER CRATE...: joins FOLDER/libCRATE.a of all the crates into one library for C,
+# FOLDER/libfm3130.a.
 #
-# Each crate that exports functions is compiled to one object, which has those functions and nothing
-# else that can be seen from outside. So a program links the objects whose functions it calls, and
-# each is compiled as if it were alone.
+# Each crate's object stays as it is, so a linker takes from the library only those that a program
+# calls. Two objects that define one symbol are an error, and then no library is left. One that would
+# stay the same byte for byte is left alone, so that nothing is linked anew.
 set -eu
 
 fail() { printf 'join-archives: %s\n' "$*" >&2; exit 1; }
 
 [ $# -ge 2 ] || fail "usage: join-archives.sh FOLDER CRATE..."
+cd "$(dirname "$0")/.."
+tools=$(tools/kit.sh)/on/$(uname -m)/toolchain/bin
 folder=$1
 shift
-cd "$(dirname "$0")/.."
-llvm_ar=$(tools/kit.sh)/on/$(uname -m)/toolchain/bin/llvm-ar
-work=$(mktemp -d "$PWD/$folder/join.XXXXXX")
-trap 'rm -rf "$work"' EXIT
-trap 'exit 1' HUP INT TERM
+joined=$folder/libfm3130.a
+part=$joined.part
 
+trap 'rm -f "$part"' EXIT
+rm -f "$part"
 for crate in "$@"; do
-    "$llvm_ar" p "$folder/lib$crate.a" >"$work/$crate.o"
+    "$tools/llvm-ar" qcsL "$part" "$folder/lib$crate.a" || fail "$folder/lib$crate.a could not be added"
 done
-"$llvm_ar" rcsD "$work/libfm3130.a" "$work"/*.o
-mv "$work/libfm3130.a" "$folder/libfm3130.a"
+if ! "$tools/ld.lld" -r --whole-archive "$part" -o /dev/null; then
+    rm -f "$joined"
+    fail "$joined: its objects cannot be linked together"
+fi
+cmp -s "$part" "$joined" || mv "$part" "$joined"

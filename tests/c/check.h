@@ -26,4 +26,10 @@ unsigned long check_frames(const char *frames, const char *lines);
 /* fm3130_step: one event, and the field of the calendar that it changed. */
 void check_steps(void);
 
+/*
+ * Holds the trim functions to a plain search: every error in range with every setting, then what is
+ * refused. Returns the number of settings judged.
+ */
+unsigned long check_trim(void);
+
 #endif

@@ -5,7 +5,8 @@
  *
  * K12's exact run, whole and in pieces; every refusal with untouched buffers; their order; the
  * fresh image; the viewer's number and the inline viewer; one event by itself (step.c); then some
- * 260,000 events against the second program (frames.c). The first difference ends it with status 1.
+ * 320,000 events against the second program (frames.c), and every trim setting of every error against
+ * a plain search (trim.c). The first difference ends it with status 1.
  */
 #include <stdarg.h>
 #include <stdio.h>
@@ -334,8 +335,8 @@ int main(int count, char **words) {
     if (events < 100000) {
         differ("only %lu events in %s, must be at least 100000", events, words[1]);
     }
-    printf(
-        "ctest: %s: K12, %u cases of refusals and views, %lu events as the second program: equal\n",
-        words[0], cases, events);
+    printf("ctest: %s: K12, %u cases of refusals and views, %lu events as the second program, %lu "
+           "trim settings as a plain search: equal\n",
+           words[0], cases, events, check_trim());
     return 0;
 }

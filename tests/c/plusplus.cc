@@ -1,5 +1,5 @@
 // SPDX-License-Identifier: Apache-2.0
-// The header in C++: its names link, and K12's exact run has its answers.
+// The header in C++: its names link, K12's exact run has its answers, and error -600 its trim setting.
 #include "fm3130.h"
 
 #include "fm3130.h" // twice is once
@@ -19,6 +19,12 @@ int main() {
     if (ran.number != FM3130_OK || ran.count != sizeof events || number != FM3130_OK ||
         day != image + 5 || std::memcmp(answers, expected, sizeof answers) != 0) {
         std::fputs("ctest: DIFFERENT: K12 in C++\n", stderr);
+        return 1;
+    }
+    if (fm3130_trim_propose(-600) != 32 * FM3130_TRIM_PLUS + 1 ||
+        fm3130_trim_check(-600, FM3130_TRIM_PLUS, 1) != FM3130_TRIM_ACCEPTED ||
+        fm3130_trim_residue(-600, FM3130_TRIM_PLUS, 1) != -88) {
+        std::fputs("ctest: DIFFERENT: the trim setting of error -600 in C++\n", stderr);
         return 1;
     }
     return 0;
