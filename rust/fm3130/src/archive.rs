@@ -6,6 +6,7 @@
 //! takes slices and hands on exactly their pointers and lengths, so safe code cannot break the rule.
 
 use crate::refusal::Refusal;
+use crate::trim::{Setting, Sign};
 
 /// What `fm3130_run` returns.
 #[repr(C)]
@@ -47,6 +48,12 @@ extern "C" {
         start: u64,
         length: u64,
     ) -> u64;
+
+    fn fm3130_trim_check(error: i32, sign: u64, code: u64) -> u64;
+
+    fn fm3130_trim_residue(error: i32, sign: u64, code: u64) -> i32;
+
+    fn fm3130_trim_propose(error: i32) -> u64;
 }
 
 /// Runs a list; returns the number of events done.
@@ -125,4 +132,30 @@ pub fn view_number(
         )
     };
     Refusal::outcome_of(number)
+}
+
+/// A sign as the archive takes it.
+fn sign_number(sign: Sign) -> u64 {
+    match sign {
+        Sign::Minus => 0,
+        Sign::Plus => 1,
+    }
+}
+
+/// Asks the number of the verdict on a trim setting.
+pub fn trim_check(error: i32, setting: Setting) -> u64 {
+    // SAFETY: numbers alone go in and out, and the archive asks nothing of them.
+    unsafe { fm3130_trim_check(error, sign_number(setting.sign), setting.code) }
+}
+
+/// Asks what a trim setting leaves; 0 where the checker refuses.
+pub fn trim_residue(error: i32, setting: Setting) -> i32 {
+    // SAFETY: numbers alone go in and out, and the archive asks nothing of them.
+    unsafe { fm3130_trim_residue(error, sign_number(setting.sign), setting.code) }
+}
+
+/// Asks the number of the setting that is proposed.
+pub fn trim_propose(error: i32) -> u64 {
+    // SAFETY: numbers alone go in and out, and the archive asks nothing of them.
+    unsafe { fm3130_trim_propose(error) }
 }

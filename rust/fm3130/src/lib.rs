@@ -13,6 +13,7 @@
 //! * [`Rolled`] says which field of the calendar a tick changed.
 //! * [`run`], [`step`], [`fresh`] and [`view`] are the archive's entries on slices of any length.
 //! * [`Refusal`] is why an entry did nothing, with 01's number.
+//! * [`trim`] proposes and checks trim settings of another maker's clock; it needs no device.
 //!
 //! No function of this crate panics, whatever it is given.
 //!
@@ -46,6 +47,7 @@ pub mod registers;
 mod rolled;
 pub mod selector;
 mod state;
+pub mod trim;
 
 pub use answer::{Answer, Pin, PinFunction};
 pub use calendar::Calendar;
