@@ -11,6 +11,7 @@
 //! * [`registers`]: the 15 registers, what a write stores, ticks, the alarm.
 //! * [`rolled`]: what a tick says about itself.
 //! * [`device`]: bus, memory and power; the events and their answers.
+//! * [`trim`]: trim settings of another maker's clock.
 //! * [`host`]: small helpers that play the bus master.
 //! * [`table`]: the cases K1 to K12 of 01, run over the bus.
 //! * [`generate`]: lists of events to run on this and on another program.
@@ -22,6 +23,7 @@ pub mod host;
 pub mod registers;
 pub mod rolled;
 pub mod table;
+pub mod trim;
 
 pub use calendar::Calendar;
 pub use device::{Device, LogicalDevice, Phase, Power, Transfer};

@@ -9,6 +9,7 @@
 //!   in, so with an invalid core too, which no events bring about.
 //! * [`ticks_told`]: short lists of ticks over every midnight of the century and
 //!   the ends of minutes and hours, to ask each tick what rolled over.
+//! * [`trim_edges`]: 23,040 errors and settings at the edges of what is allowed.
 //!
 //! What [`exhaustive`] holds; `tests/generators.rs` fails when the numbers are
 //! no longer true:
@@ -82,6 +83,7 @@ mod structured_lists;
 mod structured_refused;
 mod ticks_told_lists;
 mod transactions;
+mod trim_edges;
 
 pub use exhaustive_lists::exhaustive;
 pub use handed_in_lists::{count_handed_in_events, handed_in, handed_in_random, HandedInList};
@@ -92,6 +94,7 @@ pub use script::Script;
 pub use starting_state::{any_state, StartingState};
 pub use structured_lists::structured;
 pub use ticks_told_lists::ticks_told;
+pub use trim_edges::trim_edges;
 
 use crate::device::Device;
 
