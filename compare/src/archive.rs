@@ -33,6 +33,9 @@ mod foreign {
             told: *mut u8,
             told_length: u64,
         ) -> u64;
+        pub fn fm3130_trim_check(error: i32, sign: u64, code: u64) -> u64;
+        pub fn fm3130_trim_residue(error: i32, sign: u64, code: u64) -> i32;
+        pub fn fm3130_trim_propose(error: i32) -> u64;
         pub fn fm3130_view_number(
             image: *const u8,
             image_length: u64,
@@ -98,4 +101,22 @@ pub fn view_number(image: &[u8], memory: &[u8], selector: u64, start: u64, lengt
             length,
         )
     }
+}
+
+/// The verdict on a trim setting, by its number.
+pub fn trim_check(error: i32, sign: u64, code: u64) -> u64 {
+    // SAFETY: numbers alone.
+    unsafe { foreign::fm3130_trim_check(error, sign, code) }
+}
+
+/// What a trim setting leaves of an error; 0 where the checker refuses.
+pub fn trim_residue(error: i32, sign: u64, code: u64) -> i32 {
+    // SAFETY: numbers alone.
+    unsafe { foreign::fm3130_trim_residue(error, sign, code) }
+}
+
+/// A proposed trim setting, by its number.
+pub fn trim_propose(error: i32) -> u64 {
+    // SAFETY: a number alone.
+    unsafe { foreign::fm3130_trim_propose(error) }
 }
