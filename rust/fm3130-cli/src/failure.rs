@@ -16,7 +16,7 @@ pub enum Failure {
     CommandLine(String),
     /// A script or an event file is wrong; the text shows the place.
     Script(String),
-    /// An image or a memory is refused, by 01's numbers.
+    /// An image or a memory is refused, by 01's numbers, or a trim setting is not accepted.
     Refused(String),
     /// Whoever read standard output went away, as `head` does; there is nobody to tell.
     ReaderGone,

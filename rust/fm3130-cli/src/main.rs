@@ -6,6 +6,7 @@
 //! * `bus`: the device does the events; clocks become bytes with a meaning.
 //! * `transcript`, `waveform`, `drawing`: what happened as text, VCD and SVG.
 //! * `listing`: event bytes back to a script. `words`: a device in words.
+//! * `trimming`: what trim settings leave of an error, as text.
 //! * `files`, `output`, `progress`, `arguments`, `failure`: the world outside.
 
 #![forbid(unsafe_code)]
@@ -22,6 +23,7 @@ mod progress;
 mod script;
 mod source;
 mod transcript;
+mod trimming;
 mod waveform;
 mod words;
 

@@ -33,7 +33,7 @@ fn fails(folder: &Folder, words: &[&str], code: i32, said: &str) -> Ran {
 #[test]
 fn wrong_command_lines() {
     let folder = folder_with_files("wrong-lines");
-    let cases: [(&[&str], &str); 15] = [
+    let cases: [(&[&str], &str); 21] = [
         (&[], "no command"),
         (&["jump"], "unknown command jump"),
         (&["run"], "run needs a SCRIPT"),
@@ -48,6 +48,12 @@ fn wrong_command_lines() {
         (&["view", "--registers"], "--registers needs --image FILE"),
         (&["view", "--memory", "memory", "ten"], "ten is no number"),
         (&["fresh"], "fresh needs"),
+        (&["trim"], "trim needs an ERROR"),
+        (&["trim", "-six"], "-six is no error"),
+        (&["trim", "1.5"], "1.5 is no error"),
+        (&["trim", "-600", "1"], "1 is no setting"),
+        (&["trim", "-600", "+1", "more"], "one word too many: more"),
+        (&["trim", "-600", "--all"], "unknown option --all"),
         (&["help", "jump"], "no help on jump"),
     ];
     for (words, said) in cases {

@@ -53,6 +53,27 @@ pub struct Setting {
     pub code: u64,
 }
 
+impl Setting {
+    /// Bits 5 to 0 of that clock's control register: the sign bit, then the five bits of the code.
+    /// A code above 31 has none.
+    ///
+    /// ```
+    /// use fm3130::trim::{Setting, Sign};
+    /// // Document 002: "-10 (XX001010)".
+    /// assert_eq!(Setting { sign: Sign::Minus, code: 10 }.control_bits(), Some(0b00_1010));
+    /// assert_eq!(Setting { sign: Sign::Plus, code: 31 }.control_bits(), Some(0b11_1111));
+    /// assert_eq!(Setting { sign: Sign::Plus, code: 32 }.control_bits(), None);
+    /// ```
+    pub fn control_bits(self) -> Option<u8> {
+        let sign_bit = match self.sign {
+            Sign::Plus => 0b10_0000,
+            Sign::Minus => 0,
+        };
+        let code = u8::try_from(self.code).ok()?;
+        (self.code <= LAST_CODE).then_some(sign_bit + code)
+    }
+}
+
 impl fmt::Display for Setting {
     fn fmt(&self, formatter: &mut fmt::Formatter<'_>) -> fmt::Result {
         let sign = match self.sign {

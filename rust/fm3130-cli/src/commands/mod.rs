@@ -5,6 +5,7 @@ mod events;
 mod fresh;
 mod help;
 mod run;
+mod trim;
 mod view;
 
 use std::ffi::OsString;
@@ -28,6 +29,7 @@ pub fn dispatch(mut words: Vec<OsString>) -> Outcome {
         Some("events") => events::command(words),
         Some("view") => view::command(words),
         Some("fresh") => fresh::command(words),
+        Some("trim") => trim::command(words),
         Some("help" | "--help" | "-h") => help::command(words),
         Some("version" | "--version" | "-V") => help::version(),
         _ => Err(wrong(format!(
