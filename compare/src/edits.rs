@@ -229,6 +229,9 @@ fn fact_of(said: &str) -> (String, bool) {
             true,
         );
     }
+    if two_equations(said) {
+        return ("two sides differ".to_string(), true);
+    }
     if said.contains("no proof of `") || said.contains("`omega`") {
         return ("no proof is found".to_string(), true);
     }
@@ -257,6 +260,12 @@ fn differing(said: &str) -> Option<[String; 2]> {
     let (other, rest) = other.split_once('`')?;
     rest.starts_with(": does not hold")
         .then(|| [one.to_string(), other.to_string()])
+}
+
+/// Whether an equation was to be shown and another one was given, of which the prover prints no two terms.
+fn two_equations(said: &str) -> bool {
+    said.contains("but this has type `mathlib.Core.Path._≡_ ")
+        && said.contains("the expected one begins `Path ")
 }
 
 /// The two ends of a path that is left over and is none: the last two arguments of `Path`.
