@@ -133,7 +133,10 @@ pub fn page(top: &Path, old: &str) -> (String, Vec<String>) {
         let row = match refused {
             Some(refused) => {
                 if !refused.clear {
-                    faults.push(format!("{path}: no fact: {}", refused.fact));
+                    faults.push(format!(
+                        "{path}: see whether a fact fails: {}",
+                        refused.fact
+                    ));
                 }
                 Row {
                     edit: path,
@@ -174,6 +177,9 @@ pub fn refusal(edit: &Edit, log: &str) -> Option<Refusal> {
         .collect();
     let said = format!("{said} {}", rest.join(" "));
     let (name, said) = said.strip_prefix('`')?.split_once("`: ")?;
+    if said.contains("was not admitted") {
+        return unproved(edit, log);
+    }
     let (fact, clear) = fact_of(said);
     Some(Refusal {
         place: place_of(edit, at, name),
@@ -192,7 +198,7 @@ fn unproved(edit: &Edit, log: &str) -> Option<Refusal> {
     Some(Refusal {
         place: format!("what `{name}` ensures"),
         fact: "no proof is found".to_string(),
-        clear: said.contains("`search` does not close `returns`"),
+        clear: said.contains("`search` does not close `returns"),
     })
 }
 
@@ -221,7 +227,7 @@ fn fact_of(said: &str) -> (String, bool) {
     if let Some(pair) = differing(said).or_else(|| left_over(said)) {
         return (unequal(&pair), true);
     }
-    let looked_for = said.contains("no occurrence of the path's left endpoint")
+    let looked_for = said.contains("no occurrence of the path's")
         || said.contains("no equation of the list has an instance");
     if looked_for {
         return (
@@ -235,7 +241,26 @@ fn fact_of(said: &str) -> (String, bool) {
     if said.contains("no proof of `") || said.contains("`omega`") {
         return ("no proof is found".to_string(), true);
     }
+    if let Some([asked, given]) = mismatch(said) {
+        return match [readable(&asked), readable(&given)] {
+            [Some(asked), Some(given)] => {
+                (format!("`{asked}` is asked for, `{given}` given"), true)
+            }
+            _ => (
+                "another statement is given than is asked for".to_string(),
+                false,
+            ),
+        };
+    }
     (short(said), false)
+}
+
+/// What was asked for and what was given, where both are statements and the prover prints no two terms.
+fn mismatch(said: &str) -> Option<[String; 2]> {
+    let (_, rest) = said.split_once("expected type `")?;
+    let (asked, rest) = rest.split_once('`')?;
+    let (_, given) = rest.split_once("but this has type `")?;
+    Some([asked.to_string(), given.split('`').next()?.to_string()])
 }
 
 /// The two terms of a message that says where two types differ.
@@ -305,12 +330,14 @@ const CUT: &str = " bytes]…";
 /// What tells a term that only the prover can read: a cut, or a value by its place in the generated proof.
 const OPAQUE: [&str; 4] = [CUT, ".resV ", ".Lts.", ".Row.get "];
 
+/// A term as it is shown, where a reader can make something of it.
+fn readable(term: &String) -> Option<String> {
+    let text = plain(term);
+    let short = text.chars().count() <= LONGEST;
+    (short && !OPAQUE.iter().any(|mark| term.contains(mark))).then_some(text)
+}
+
 fn unequal(pair: &[String; 2]) -> String {
-    let readable = |term: &String| {
-        let text = plain(term);
-        let short = text.chars().count() <= LONGEST;
-        (short && !OPAQUE.iter().any(|mark| term.contains(mark))).then_some(text)
-    };
     match pair.each_ref().map(readable) {
         [Some(one), Some(other)] if one != other => format!("`{one}` is not `{other}`"),
         [Some(one), None] | [None, Some(one)] => format!("`{one}` is not the other side"),
