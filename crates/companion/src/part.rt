@@ -2,6 +2,7 @@
 // The companion in a transfer: an address byte, a data byte, a byte that is read and the end of that read.
 ghost use mathlib.Core.Path.{_≡_};
 ghost use Prim.Native.Nat.{_≤_};
+ghost use Rattle.calendar.specs.Next.{isValid};
 ghost use Rattle.companion.specs.Map.{LAST};
 ghost use Rattle.companion.specs.Part.{nextAddress, steppedOf, refusedAddress, controlRead};
 ghost use Rattle.companion.specs.Part.{aimOf, loadsBadDate, refusedDate, storeOf, loadOf, loadedOf};
@@ -12,6 +13,7 @@ use crate::control::w_falls;
 use crate::map::CONTROL;
 use crate::map::COUNT;
 use crate::map::LAST;
+use calendar::Calendar;
 
 // The address after one: from 0Eh back to 00h.
 fn next_address(address: u8) -> u8
@@ -19,6 +21,23 @@ fn next_address(address: u8) -> u8
     ensures { λ r. ⌜ r ≡ nextAddress address ⌝ }
 {
     (address + 1) % COUNT
+}
+
+// Whether a calendar is a date and a time that exist. It is handed on byte by byte: copied whole, its bytes and the one
+// before them would be packed into a word and unpacked again at every event of the list run (docs/SPEED.md).
+fn exists(time: Calendar) -> bool
+    ensures { λ r. ⌜ r ≡ isValid time ⌝ }
+{
+    let copied = Calendar {
+        seconds: time.seconds,
+        minutes: time.minutes,
+        hours: time.hours,
+        day: time.day,
+        date: time.date,
+        month: time.month,
+        year: time.year,
+    };
+    copied.is_valid()
 }
 
 impl Companion {
@@ -59,13 +78,12 @@ impl Companion {
         ensures { λ r. ⌜ r ≡ loadsBadDate self byte ⌝ }
     {
         let registers = self.registers;
-        let time = registers.time;
-        (self.address == CONTROL) & w_falls(registers.control, byte) & !time.is_valid()
+        (self.address == CONTROL) & w_falls(registers.control, byte) & !exists(registers.time)
     }
 
     // What such a byte leaves: the address steps on, and nothing else changes.
     fn refused_date(self) -> Taken
-        requires { ⌜ self .address ≤ 14 ⌝ }
+        requires { ⌜ self .address ≤ LAST ⌝ }
         ensures { λ r. ⌜ r ≡ refusedDate self ⌝ }
     {
         Taken {

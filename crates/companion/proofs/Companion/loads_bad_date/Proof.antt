@@ -8,11 +8,11 @@ use Rattle.companion.proofs.Companion.loads_bad_date.Tie as tie
 w-falls-requires : tie.Need-w-falls-requires
 w-falls-requires c κs = search needs
 
-is-valid-requires : tie.Need-is-valid-requires
-is-valid-requires c κs = search needs
+exists-requires : tie.Need-exists-requires
+exists-requires c κs = search needs
 
 returns : tie.Need-returns
-returns c = rw (c .is-valid .ensures, c .before .w-falls .ensures)
+returns c = rw (c .exists .ensures, c .before .w-falls .ensures)
 
 pub loads-bad-date-spec : {M : Type 1} → statement M
-loads-bad-date-spec = tie.close (tie.spec w-falls-requires is-valid-requires returns)
+loads-bad-date-spec = tie.close (tie.spec w-falls-requires exists-requires returns)
