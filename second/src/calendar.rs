@@ -17,7 +17,7 @@ pub struct Calendar {
 }
 
 /// Two decimal digits, each 0 to 9.
-fn has_decimal_digits(byte: u8) -> bool {
+pub fn has_decimal_digits(byte: u8) -> bool {
     (byte >> 4) <= 9 && (byte & 0x0F) <= 9
 }
 

@@ -11,6 +11,9 @@
 //! * [`registers`]: the 15 registers, what a write stores, ticks, the alarm.
 //! * [`rolled`]: what a tick says about itself.
 //! * [`device`]: bus, memory and power; the events and their answers.
+//! * [`state`]: a device's state by value, and 01's limits on it.
+//! * [`refusal`]: the numbers of refusals.
+//! * [`mend`]: mending a calendar.
 //! * [`trim`]: trim settings of another maker's clock.
 //! * [`host`]: small helpers that play the bus master.
 //! * [`table`]: the cases K1 to K12 of 01, run over the bus.
@@ -20,8 +23,11 @@ pub mod calendar;
 pub mod device;
 pub mod generate;
 pub mod host;
+pub mod mend;
+pub mod refusal;
 pub mod registers;
 pub mod rolled;
+pub mod state;
 pub mod table;
 pub mod trim;
 
@@ -29,6 +35,7 @@ pub use calendar::Calendar;
 pub use device::{Device, LogicalDevice, Phase, Power, Transfer};
 pub use registers::PinFunction;
 pub use rolled::Rolled;
+pub use state::State;
 
 /// "8,192 bytes of FRAM".
 pub const MEMORY_BYTES: usize = 8192;

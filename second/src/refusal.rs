@@ -1,0 +1,18 @@
+// SPDX-License-Identifier: Apache-2.0
+//! The numbers of refusals, as 01's table and the requests of 02 give them.
+
+/// "1: memory is not 8,192 bytes".
+pub const WRONG_MEMORY: u8 = 1;
+
+/// "2: image is not 64 bytes, or no well-formed state writes it ...; for a state
+/// by value, outside the limits below".
+pub const WRONG_STATE: u8 = 2;
+
+/// "3: some event byte is above 7".
+pub const UNKNOWN_EVENT: u8 = 3;
+
+/// "4: answers shorter than events".
+pub const ANSWERS_TOO_SHORT: u8 = 4;
+
+/// 02, number 7: "a larger n is refused by number 8".
+pub const TOO_MANY_TICKS: u8 = 8;
