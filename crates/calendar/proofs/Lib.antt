@@ -11,5 +11,6 @@ pub mod Instant
 pub mod Next
 pub mod Highest
 pub mod Width
+pub mod Mend
 pub mod After
 pub mod Cases

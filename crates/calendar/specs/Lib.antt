@@ -5,6 +5,7 @@ pub mod Month
 pub mod Highest
 pub mod Next
 pub mod Width
+pub mod Mend
 pub mod Instant
 pub mod After
 pub mod Cases

@@ -3,7 +3,8 @@
 ghost use mathlib.Core.Path.{_≡_};
 ghost use Prim.Native.Nat.{_<_};
 ghost use lib.Dec.{T};
-ghost use Rattle.calendar.specs.Field.{value, inField, stepOf};
+ghost use Rattle.calendar.specs.Field.{value, bcd, inField, stepOf};
+ghost use Rattle.calendar.specs.Mend.{mendedField, clippedDate};
 
 // A field that took a carry or none: the byte that it then holds, and whether it carries on to the next field.
 pub struct Carried {
@@ -51,4 +52,33 @@ pub(crate) fn step(byte: u8, low: u8, top: u8, carry: bool) -> Carried
         byte: byte + 1,
         carry: false,
     }
+}
+
+// The byte of a number of two digits.
+fn bcd(number: u8) -> u8
+    requires { ⌜ number < 100 ⌝ }
+    ensures { λ r. ⌜ r ≡ bcd number ⌝ }
+{
+    number / 10 * 16 + number % 10
+}
+
+// A field within its limits as it is, any other at its least number, which is one digit.
+pub(crate) fn mended_field(byte: u8, low: u8, top: u8) -> u8
+    ensures { λ r. ⌜ r ≡ mendedField low top byte ⌝ }
+{
+    if !in_field(byte, low, top) {
+        return low;
+    }
+    byte
+}
+
+// A date as it is, or the last day of a month that has fewer days.
+pub(crate) fn clipped_date(date: u8, length: u8) -> u8
+    requires { ⌜ length < 100 ⌝ }
+    ensures { λ r. ⌜ r ≡ clippedDate length date ⌝ }
+{
+    if value(date) <= length {
+        return date;
+    }
+    bcd(length)
 }

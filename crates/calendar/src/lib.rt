@@ -1,7 +1,7 @@
 // SPDX-License-Identifier: Apache-2.0
 // The calendar core: seven bytes by value, and the tick that takes a valid calendar to the next second.
 //
-//   fields.rt   one field of two decimal digits: its number, its limits, its step with a carry
+//   fields.rt   one field of two decimal digits: its number, its limits, its step with a carry, and put right
 //   months.rt   how many days a month has
 //   carries.rt  the highest field that took a carry
 //   lib.rt      the calendar: the carry goes from field to field
@@ -9,13 +9,16 @@ ghost use mathlib.Core.Path.{_≡_};
 ghost use lib.Dec.{T};
 ghost use Rattle.calendar.specs.Next.{lengthOf, isValid, tickOf, nextOf};
 ghost use Rattle.calendar.specs.Width.{isWithin};
+ghost use Rattle.calendar.specs.Mend.{rangedOf, mendedOf};
 
 mod carries;
 mod fields;
 mod months;
 
 use crate::carries::highest;
+use crate::fields::clipped_date;
 use crate::fields::in_field;
+use crate::fields::mended_field;
 use crate::fields::step;
 use crate::fields::value;
 use crate::months::month_length;
@@ -130,6 +133,39 @@ impl Calendar {
             calendar: self,
             century: false,
             rolled: Rolled::Nothing,
+        }
+    }
+
+    // Each field by itself: one that is out of range goes to its least number. A date by itself is 1 to 31.
+    fn ranged(self) -> Calendar
+        ensures { λ r. ⌜ r ≡ rangedOf self ⌝ }
+    {
+        Calendar {
+            seconds: mended_field(self.seconds, 0, 59),
+            minutes: mended_field(self.minutes, 0, 59),
+            hours: mended_field(self.hours, 0, 23),
+            day: mended_field(self.day, 1, 7),
+            date: mended_field(self.date, 1, 31),
+            month: mended_field(self.month, 1, 12),
+            year: mended_field(self.year, 0, 99),
+        }
+    }
+
+    // The calendar put right: each field that is out of range goes to its least number, then a date beyond its
+    // month's end to the last day. A valid calendar comes back as it is.
+    pub fn mended(self) -> Calendar
+        ensures { λ r. ⌜ r ≡ mendedOf self ⌝ }
+    {
+        let ranged = self.ranged();
+        let length = ranged.length();
+        Calendar {
+            seconds: ranged.seconds,
+            minutes: ranged.minutes,
+            hours: ranged.hours,
+            day: ranged.day,
+            date: clipped_date(ranged.date, length),
+            month: ranged.month,
+            year: ranged.year,
         }
     }
 }
