@@ -2,7 +2,7 @@
 -- What is put right is valid; a valid calendar is left as it is; so putting right twice is putting right once.
 -- Each field by one law over its limits; then the date, whose month has at least 28 days.
 -- Assumes nothing.
-use mathlib.Core.Path.{_≡_, refl}
+use mathlib.Core.Path.{_≡_, refl, ap, _∙_}
 use mathlib.Core.Bool.{Bool, true, false}
 use Prim.Native.Nat.{ℕ, _≤_, _<_}
 use native.Mathlib.Omega.{arith}
@@ -41,9 +41,13 @@ module _ (c : Calendar) where
   month-in = mended-in 1 12 (c .month) (lit< tt) (lit≤ tt)
 
   -- the length of the month that was put right
-  pub ranged-length : (28 ≤ lengthOf (rangedOf c)) × (lengthOf (rangedOf c) ≤ 31)
+  ranged-length : (28 ≤ lengthOf (rangedOf c)) × (lengthOf (rangedOf c) ≤ 31)
   ranged-length =
       month-length-limits (value (rangedOf c .month)) (value (rangedOf c .year)) (month-in .least) (month-in .most)
+
+  -- as a call returns it
+  pub ranged-below : {r : Calendar} {n : ℕ} → r ≡ rangedOf c → n ≡ lengthOf r → n < 100
+  ranged-below {r} {n} e h = let l : n ≡ lengthOf (rangedOf c) = h ∙ ap lengthOf e in omega (arith, ranged-length .1)
 
   date-in : InField 1 (lengthOf (rangedOf c)) (clippedDate (lengthOf (rangedOf c)) (rangedOf c .date))
   unfolding rangedOf

@@ -2,10 +2,9 @@
 -- `calendar::Calendar::mended` meets its contract: the fields that were put right, and of these the date clipped to its month,
 -- which has at most 31 days.
 -- Assumes nothing.
-use native.Mathlib.Omega.{arith}
 use borrow.Author.Needs.{needs}
 use Rattle.calendar.specs.Mend.{mendedOf}
-use Rattle.calendar.proofs.Mend.{ranged-length}
+use Rattle.calendar.proofs.Mend.{ranged-below}
 use Rattle.calendar.proofs.Calendar.mended.Statement.{statement}
 use Rattle.calendar.proofs.Calendar.mended.Tie as tie
 
@@ -17,8 +16,7 @@ length-requires c κs = search needs
 
 clipped-date-requires : tie.Need-clipped-date-requires
 clipped-date-requires c κs =
-    let r = c .before in
-    rw (c .length .ensures, r .ranged .ensures) (omega (arith, ranged-length (r .before .args .self) .1))
+    let r = c .before in ranged-below (r .before .args .self) (r .ranged .ensures) (c .length .ensures)
 
 returns : tie.Need-returns
 unfolding mendedOf
