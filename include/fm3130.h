@@ -16,6 +16,7 @@
  *   fm3130_step         does one event, and says which field of the calendar it changed
  *   fm3130_view_number  whether a part of the memory or of the registers can be viewed
  *   fm3130_view         that part itself, never a copy (an inline function, below)
+ *   fm3130_mend         puts an old image right that holds an impossible date or time
  *
  * Three more functions, at the end, are about another maker's clock and need no device:
  *
@@ -119,7 +120,7 @@ enum fm3130_number {
                                     (the viewer tests length only) */
     FM3130_UNKNOWN_EVENT = 3,    /* some event byte is above 7 */
     FM3130_SHORT_ANSWERS = 4,    /* answers shorter than events; fm3130_step: told shorter than
-                                    two bytes */
+                                    two bytes; fm3130_mend: changes shorter than the list */
     FM3130_UNKNOWN_SELECTOR = 5, /* viewer: selector neither 0 (memory) nor 1 (registers) */
     FM3130_PAST_THE_END = 6      /* viewer: start + length (exact sum) passes the end of the
                                     chosen bytes */
@@ -280,6 +281,48 @@ static inline const uint8_t *fm3130_view(const uint8_t *image, const uint8_t *me
     }
     return (selector == FM3130_VIEW_MEMORY ? memory : image) + start;
 }
+
+/* What fm3130_mend lists of a register: its number, the old byte, the new byte. */
+#define FM3130_CHANGE_BYTES 3
+
+/* Room for every list of fm3130_mend: all seven registers 02h to 08h. */
+#define FM3130_CHANGES_ROOM (7 * FM3130_CHANGE_BYTES)
+
+/* What fm3130_mend returns. */
+struct fm3130_mended {
+    uint64_t number; /* enum fm3130_number: 0, 2 or 4 */
+    uint64_t count;  /* the registers changed under number 0, else none */
+};
+
+/*
+ * Puts an old image right that holds an impossible date or time: registers 02h to 08h and, by itself
+ * but by the same rule, the calendar core behind them (bytes 15 to 21). Each field that is out of
+ * range on its own goes to its lowest legal figure: seconds, minutes, hours and year to 00h, day,
+ * date and month to 01h, a date by itself being 1 to 31. Then a date beyond its month's end goes to
+ * the last day: 31 April to 30 April, 30 February to 28 or 29. Everything else in the image stays,
+ * also in the middle of a transfer. The memory is not asked for.
+ *
+ *   image    image_length bytes, must be 64 and an image as fm3130_run takes it; read and written
+ *   changes  changes_length bytes, any number of them; FM3130_CHANGES_ROOM are always enough, and
+ *            none are needed where the registers are valid; written
+ *
+ * Returns                       image           changes
+ *   number 0, count the         put right       for each register changed, in register order: its
+ *   registers changed                           number, the old byte, the new byte; bytes past
+ *                                               3 * count are unchanged
+ *   number 2 or 4, count 0      unchanged       unchanged
+ *
+ *   2      image_length is not 64, or no well-formed state writes the image
+ *   4      changes_length is less than 3 times the registers to be changed
+ *
+ * Only registers are listed: where the core alone was put right the count is 0. What comes out is
+ * valid, registers and core, and a second call changes nothing.
+ *
+ * Proved: MendSettled, crates/mend/specs/Mend.antt, and what is said above, crates/mend/specs/
+ * Laws.antt. Allocates nothing, keeps nothing, thread-safe on distinct buffers.
+ */
+struct fm3130_mended fm3130_mend(uint8_t *image, uint64_t image_length, uint8_t *changes,
+                                 uint64_t changes_length);
 
 /*
  * Trim settings of another maker's clock (document 002), which knows nothing of a device.

@@ -27,6 +27,12 @@ unsigned long check_frames(const char *frames, const char *lines);
 void check_steps(void);
 
 /*
+ * fm3130_mend: every byte in every calendar field, every month's end, the list, every refusal.
+ * Returns the number of images.
+ */
+unsigned long check_mends(void);
+
+/*
  * Holds the trim functions to a plain search: every error in range with every setting, then what is
  * refused. Returns the number of settings judged.
  */

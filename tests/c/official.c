@@ -4,9 +4,9 @@
  * official archive for x86-64 (the real artifact) and with the one for this machine.
  *
  * K12's exact run, whole and in pieces; every refusal with untouched buffers; their order; the
- * fresh image; the viewer's number and the inline viewer; one event by itself (step.c); then some
- * 320,000 events against the second program (frames.c), and every trim setting of every error against
- * a plain search (trim.c). The first difference ends it with status 1.
+ * fresh image; the viewer's number and the inline viewer; one event by itself (step.c); images put right
+ * (mend.c); then some 320,000 events against the second program (frames.c), and every trim setting of
+ * every error against a plain search (trim.c). The first difference ends it with status 1.
  */
 #include <stdarg.h>
 #include <stdio.h>
@@ -302,7 +302,7 @@ static void check_views(void) {
     check_untouched("views");
 }
 
-/* The version's parts and its text agree, and what the list run returns is two words. */
+/* The version's parts and its text agree, and what the list run and mending return is two words. */
 static void check_header(void) {
     char text[32];
     snprintf(text, sizeof text, "%d.%d.%d", FM3130_VERSION_MAJOR, FM3130_VERSION_MINOR,
@@ -311,6 +311,7 @@ static void check_header(void) {
         differ("the version is %s, its parts are %s", FM3130_VERSION, text);
     }
     check_equal("bytes of struct fm3130_ran", sizeof(struct fm3130_ran), 16);
+    check_equal("bytes of struct fm3130_mended", sizeof(struct fm3130_mended), 16);
 }
 
 int main(int count, char **words) {
@@ -335,8 +336,9 @@ int main(int count, char **words) {
     if (events < 100000) {
         differ("only %lu events in %s, must be at least 100000", events, words[1]);
     }
+    unsigned long mended = check_mends();
     printf("ctest: %s: K12, %u cases of refusals and views, %lu events as the second program, %lu "
-           "trim settings as a plain search: equal\n",
-           words[0], cases, events, check_trim());
+           "images put right, %lu trim settings as a plain search: equal\n",
+           words[0], cases, events, mended, check_trim());
     return 0;
 }

@@ -1,5 +1,6 @@
 // SPDX-License-Identifier: Apache-2.0
-// The header in C++: its names link, K12's exact run has its answers, and error -600 its trim setting.
+// The header in C++: its names link, K12's exact run has its answers, 31 April is put right, and error -600 has its
+// trim setting.
 #include "fm3130.h"
 
 #include "fm3130.h" // twice is once
@@ -19,6 +20,16 @@ int main() {
     if (ran.number != FM3130_OK || ran.count != sizeof events || number != FM3130_OK ||
         day != image + 5 || std::memcmp(answers, expected, sizeof answers) != 0) {
         std::fputs("ctest: DIFFERENT: K12 in C++\n", stderr);
+        return 1;
+    }
+    static const uint8_t change[FM3130_CHANGE_BYTES] = {0x06, 0x31, 0x30};
+    uint8_t changes[FM3130_CHANGES_ROOM];
+    image[6] = 0x31;
+    image[7] = 0x04;
+    fm3130_mended mended = fm3130_mend(image, sizeof image, changes, sizeof changes);
+    if (mended.number != FM3130_OK || mended.count != 1 || image[6] != 0x30 ||
+        std::memcmp(changes, change, sizeof change) != 0) {
+        std::fputs("ctest: DIFFERENT: 31 April put right in C++\n", stderr);
         return 1;
     }
     if (fm3130_trim_propose(-600) != 32 * FM3130_TRIM_PLUS + 1 ||
