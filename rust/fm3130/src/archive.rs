@@ -15,6 +15,13 @@ struct Ran {
     count: u64,
 }
 
+/// What `fm3130_mend` returns.
+#[repr(C)]
+struct Mended {
+    number: u64,
+    count: u64,
+}
+
 extern "C" {
     fn fm3130_run(
         image: *mut u8,
@@ -48,6 +55,13 @@ extern "C" {
         start: u64,
         length: u64,
     ) -> u64;
+
+    fn fm3130_mend(
+        image: *mut u8,
+        image_length: u64,
+        changes: *mut u8,
+        changes_length: u64,
+    ) -> Mended;
 
     fn fm3130_trim_check(error: i32, sign: u64, code: u64) -> u64;
 
@@ -132,6 +146,22 @@ pub fn view_number(
         )
     };
     Refusal::outcome_of(number)
+}
+
+/// Puts an image right; the list of the registers changed goes to the first bytes of `changes`.
+/// Returns how many they are.
+pub fn mend(image: &mut [u8], changes: &mut [u8]) -> Result<usize, Refusal> {
+    // SAFETY: as in `run`: the pointers and lengths of live, exclusive slices.
+    let mended = unsafe {
+        fm3130_mend(
+            image.as_mut_ptr(),
+            image.len() as u64,
+            changes.as_mut_ptr(),
+            changes.len() as u64,
+        )
+    };
+    // The count is at most 7, so it fits.
+    Refusal::outcome_of(mended.number).map(|()| mended.count as usize)
 }
 
 /// A sign as the archive takes it.

@@ -6,11 +6,12 @@ use std::fmt;
 use crate::answer::{Answer, Pin};
 use crate::archive;
 use crate::calendar::Calendar;
+use crate::change::Change;
 use crate::entries;
 use crate::refusal::Refusal;
 use crate::rolled::{Rolled, Told};
 use crate::state::{Phase, Power, State};
-use crate::{IMAGE_BYTES, MEMORY_BYTES, REGISTER_COUNT};
+use crate::{CHANGES_ROOM, IMAGE_BYTES, MEMORY_BYTES, REGISTER_COUNT};
 
 /// One FM3130: a state image and 8,192 bytes of memory.
 ///
@@ -156,6 +157,31 @@ impl Device {
             answer: Answer(answer),
             rolled: Rolled::of_number(field),
         })
+    }
+
+    /// Puts right registers 02h to 08h and, by itself but by the same rule, the core: each field that
+    /// is out of range on its own goes to its lowest legal figure, then a date beyond its month's end
+    /// goes to the last day. Returns the registers changed, in their order; the core is none of them.
+    ///
+    /// ```
+    /// use fm3130::Device;
+    ///
+    /// let mut image = *Device::fresh().image();
+    /// image[6..8].copy_from_slice(&[0x31, 0x04]); // 31 April, in the registers
+    /// image[19..21].copy_from_slice(&[0x30, 0x02]); // 30 February, in the core
+    /// let mut device = Device::from_parts(&image, &[0; 8192])?;
+    /// let changes = device.mend();
+    /// assert_eq!(changes.len(), 1);
+    /// assert_eq!(changes[0].to_string(), "06h date: 31h to 30h");
+    /// assert_eq!(device.calendar().to_string(), "00:00:00, 29/02/00, day 1");
+    /// assert_eq!(device.mend(), []);
+    /// # Ok::<(), fm3130::Refusal>(())
+    /// ```
+    pub fn mend(&mut self) -> Vec<Change> {
+        let mut list = [0; CHANGES_ROOM];
+        // Number 0 for every well-formed image and this much room, so there is nothing to hand on.
+        let count = archive::mend(&mut self.image, &mut list).unwrap_or(0);
+        Change::all_of(&list, count)
     }
 
     /// The state image: its first 15 bytes are the registers.

@@ -82,6 +82,35 @@ pub fn fresh(image: &mut [u8]) -> Result<(), Refusal> {
     archive::fresh(image)
 }
 
+/// Puts a state image right that holds an impossible date or time: registers 02h to 08h and, by
+/// itself but by the same rule, the core. Each field that is out of range on its own goes to its
+/// lowest legal figure, then a date beyond its month's end goes to the last day; all else stays.
+///
+/// For each register changed, in register order, `changes` gets its number, the old byte and the new
+/// byte ([`crate::CHANGE_BYTES`]); bytes past them stay. Returns how many registers were changed.
+/// [`crate::CHANGES_ROOM`] bytes are always enough.
+///
+/// # Errors
+///
+/// [`Refusal::Image`] or [`Refusal::ShortAnswers`] (fewer bytes than the list has), the first that
+/// applies; then no buffer has changed.
+///
+/// ```
+/// use fm3130::Refusal;
+///
+/// let (mut image, mut changes) = ([0; 64], [0xEE; 4]);
+/// fm3130::fresh(&mut image)?;
+/// image[6..8].copy_from_slice(&[0x31, 0x04]); // 31 April
+/// assert_eq!(fm3130::mend(&mut image, &mut []), Err(Refusal::ShortAnswers));
+/// assert_eq!(fm3130::mend(&mut image, &mut changes), Ok(1));
+/// assert_eq!(changes, [0x06, 0x31, 0x30, 0xEE]);
+/// assert_eq!(fm3130::mend(&mut image, &mut []), Ok(0)); // once is enough
+/// # Ok::<(), Refusal>(())
+/// ```
+pub fn mend(image: &mut [u8], changes: &mut [u8]) -> Result<usize, Refusal> {
+    archive::mend(image, changes)
+}
+
 /// A part of the memory or of the registers, never a copy. Of the image only the length is tested.
 ///
 /// # Errors

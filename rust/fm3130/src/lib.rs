@@ -11,7 +11,9 @@
 //!   viewer can show.
 //! * [`State`], [`Calendar`], [`Pin`] and [`registers`] say in words what a state holds.
 //! * [`Rolled`] says which field of the calendar a tick changed.
-//! * [`run`], [`step`], [`fresh`] and [`view`] are the archive's entries on slices of any length.
+//! * [`Device::mend`] puts an impossible date or time right; [`Change`] is a register that it changed.
+//! * [`run`], [`step`], [`fresh`], [`view`] and [`mend`] are the archive's entries on slices of any
+//!   length.
 //! * [`Refusal`] is why an entry did nothing, with 01's number.
 //! * [`trim`] proposes and checks trim settings of another maker's clock; it needs no device.
 //!
@@ -39,6 +41,7 @@ mod answer;
 #[allow(unsafe_code)]
 mod archive;
 mod calendar;
+mod change;
 mod device;
 mod entries;
 pub mod event;
@@ -51,8 +54,9 @@ pub mod trim;
 
 pub use answer::{Answer, Pin, PinFunction};
 pub use calendar::Calendar;
+pub use change::Change;
 pub use device::Device;
-pub use entries::{fresh, run, step, view};
+pub use entries::{fresh, mend, run, step, view};
 pub use refusal::Refusal;
 pub use rolled::{Rolled, Told};
 pub use state::{Phase, Power, Side, State};
@@ -65,3 +69,9 @@ pub const MEMORY_BYTES: usize = 8192;
 
 /// The number of registers, 00h to 0Eh; they are the first bytes of an image.
 pub const REGISTER_COUNT: usize = 15;
+
+/// What [`mend`] lists of a register: its number, the old byte, the new byte.
+pub const CHANGE_BYTES: usize = 3;
+
+/// Room for every list of [`mend`]: all seven registers 02h to 08h.
+pub const CHANGES_ROOM: usize = 7 * CHANGE_BYTES;

@@ -89,7 +89,7 @@ pub const NAMES: [&str; REGISTER_COUNT] = [
 const CONTROL_BITS: [&str; 8] = ["LB", "AF", "CF", "POR", "AEN", "CAL", "W", "R"];
 
 /// What the calendar registers count, 02h to 08h.
-const CALENDAR_FIELDS: [&str; 7] = [
+pub const CALENDAR_FIELDS: [&str; 7] = [
     "seconds", "minutes", "hours", "day", "date", "month", "year",
 ];
 
