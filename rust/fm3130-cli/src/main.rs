@@ -6,6 +6,7 @@
 //! * `bus`: the device does the events; clocks become bytes with a meaning.
 //! * `transcript`, `waveform`, `drawing`: what happened as text, VCD and SVG.
 //! * `listing`: event bytes back to a script. `words`: a device in words.
+//! * `mending`: what was put right in an image, in words.
 //! * `trimming`: what trim settings leave of an error, as text.
 //! * `files`, `output`, `progress`, `arguments`, `failure`: the world outside.
 
@@ -18,6 +19,7 @@ mod drawing;
 mod failure;
 mod files;
 mod listing;
+mod mending;
 mod output;
 mod progress;
 mod script;

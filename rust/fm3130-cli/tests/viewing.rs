@@ -38,7 +38,7 @@ fn the_registers_in_words() {
 #[test]
 fn every_command_has_a_page() {
     let folder = Folder::new("help");
-    for command in ["run", "events", "view", "fresh", "trim", "script"] {
+    for command in ["run", "events", "view", "fresh", "mend", "trim", "script"] {
         let page = folder.succeed(&["help", command]);
         assert!(page.starts_with("NAME\n"), "{command}");
         assert!(folder.succeed(&["help"]).contains(command));
