@@ -9,8 +9,16 @@ pub struct Ran {
     pub count: u64,
 }
 
+/// What mending returns: the number of 01's table, and how many registers were changed.
+#[repr(C)]
+#[derive(Clone, Copy, Debug, PartialEq, Eq)]
+pub struct Mended {
+    pub number: u64,
+    pub count: u64,
+}
+
 mod foreign {
-    use super::Ran;
+    use super::{Mended, Ran};
 
     unsafe extern "C" {
         pub fn fm3130_run(
@@ -33,6 +41,12 @@ mod foreign {
             told: *mut u8,
             told_length: u64,
         ) -> u64;
+        pub fn fm3130_mend(
+            image: *mut u8,
+            image_length: u64,
+            changes: *mut u8,
+            changes_length: u64,
+        ) -> Mended;
         pub fn fm3130_trim_check(error: i32, sign: u64, code: u64) -> u64;
         pub fn fm3130_trim_residue(error: i32, sign: u64, code: u64) -> i32;
         pub fn fm3130_trim_propose(error: i32) -> u64;
@@ -77,6 +91,19 @@ pub fn step(image: &mut [u8], memory: &mut [u8], event: u64, told: &mut [u8]) ->
             event,
             told.as_mut_ptr(),
             told.len() as u64,
+        )
+    }
+}
+
+/// Puts an image right.
+pub fn mend(image: &mut [u8], changes: &mut [u8]) -> Mended {
+    // SAFETY: two slices of Rust's are non-null and do not overlap, and their lengths are their own.
+    unsafe {
+        foreign::fm3130_mend(
+            image.as_mut_ptr(),
+            image.len() as u64,
+            changes.as_mut_ptr(),
+            changes.len() as u64,
         )
     }
 }
