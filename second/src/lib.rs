@@ -14,12 +14,16 @@
 //! * [`state`]: a device's state by value, and 01's limits on it.
 //! * [`refusal`]: the numbers of refusals.
 //! * [`mend`]: mending a calendar.
+//! * [`catch_up`]: many ticks in one call, by plain counting and by day numbers.
+//! * [`day_numbers`]: the count by day numbers, which stands by itself.
 //! * [`trim`]: trim settings of another maker's clock.
 //! * [`host`]: small helpers that play the bus master.
 //! * [`table`]: the cases K1 to K12 of 01, run over the bus.
 //! * [`generate`]: lists of events to run on this and on another program.
 
 pub mod calendar;
+pub mod catch_up;
+pub mod day_numbers;
 pub mod device;
 pub mod generate;
 pub mod host;
