@@ -67,7 +67,7 @@ fn frozen(old: u8, byte: u8, core: Calendar, time: Calendar) -> Calendar
 }
 
 // 02h to 08h where R and W are 0: they follow the core.
-pub(crate) fn followed(control: u8, core: Calendar, time: Calendar) -> Calendar
+pub fn followed(control: u8, core: Calendar, time: Calendar) -> Calendar
     ensures { λ r. ⌜ r ≡ followed control core time ⌝ }
 {
     if has(control, W) | has(control, R) {

@@ -18,13 +18,13 @@ use calendar::Rolled;
 
 mod access;
 mod change;
-mod control;
+pub mod control;
 mod limits;
 pub mod map;
 mod part;
 mod pin;
 mod power;
-mod tick;
+pub mod tick;
 mod write;
 
 // Registers 09h to 0Dh. Bit 7 of each is Match: 1 leaves the field out of the comparison.

@@ -45,7 +45,7 @@ pub const ALSW: u8 = 128;
 pub const WP0: u8 = 8;
 
 // Whether a byte has the bit of a weight.
-pub(crate) fn has(byte: u8, weight: u8) -> bool
+pub fn has(byte: u8, weight: u8) -> bool
     requires { ⌜ 0 < weight ⌝ }
     ensures { λ r. ⌜ r ≡ has byte weight ⌝ }
 {

@@ -38,7 +38,7 @@ impl Alarm {
 }
 
 // 00h after a tick that counts: AF rises where the alarm rang, CF where the year left the century.
-fn told(control: u8, rung: bool, century: bool) -> u8
+pub fn told(control: u8, rung: bool, century: bool) -> u8
     ensures { λ r. ⌜ r ≡ toldOf control rung century ⌝ }
 {
     let af = has(control, AF) | rung;

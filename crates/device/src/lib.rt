@@ -18,7 +18,7 @@ mod desk;
 mod limits;
 pub mod numbers;
 mod step;
-mod supply;
+pub mod supply;
 
 // The bytes of memory.
 pub const MEMORY_SIZE: u16 = 8192;

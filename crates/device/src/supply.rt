@@ -15,7 +15,7 @@ use companion::Companion;
 use wire::Phase;
 
 // Whether main power or backup is present.
-fn is_supplied(power: Power) -> bool
+pub fn is_supplied(power: Power) -> bool
     ensures { λ r. ⌜ r ≡ isSupplied power ⌝ }
 {
     match power {
@@ -70,7 +70,7 @@ impl State {
     }
 
     // The state with another companion.
-    fn with_companion(self, companion: Companion) -> State
+    pub fn with_companion(self, companion: Companion) -> State
         ensures { λ r. ⌜ r ≡ withCompanion self companion ⌝ }
     {
         let power = self.power;
