@@ -52,7 +52,7 @@ pub fn instant(starts: &[u16; 1200], calendar: Calendar) -> u32
 }
 
 // The calendar at a second of this century or the next, on a day of the week.
-pub fn at(starts: &[u16; 1200], second: u32, weekday: u8) -> Calendar
+pub(crate) fn at(starts: &[u16; 1200], second: u32, weekday: u8) -> Calendar
     requires { ⌜ IsTable (now starts) ⌝ }
     ensures { λ r. ⌜ PlacedAt second weekday r ⌝ }
 {

@@ -1,0 +1,96 @@
+-- SPDX-License-Identifier: Apache-2.0
+-- `sleep::search::rings_on` meets its contract. The invariant: `day` is in `month`, and no day before it rings. The
+-- measure is the days left. Assumes nothing.
+use native.Mathlib.Omega.{arith}
+use borrow.Author.Needs.{needs}
+use Prim.Native.Nat.{ℕ, _+_, _-_, _≤_, _<_}
+use mathlib.Core.Path.{_≡_, sym, subst}
+use Rattle.calendar.specs.Instant.{monthStart}
+use Rattle.days.specs.Places.{InMonth}
+use Rattle.days.proofs.Months.{month-first, month-not-last}
+use Rattle.sleep.specs.Search.{DayRings}
+use Rattle.sleep.proofs.Rings.{none-more, tells-none, tells-some}
+use Rattle.sleep.proofs.search.rings_on.Statement.{statement}
+use Rattle.sleep.proofs.search.rings_on.Tie as tie
+
+abbrev Inv-loop : tie.InvT-loop
+Inv-loop starts alarm to day₀ month₀ day month =
+    (InMonth day month) × (day₀ ≤ day) × ((d : ℕ) → day₀ ≤ d → d < day → d < to → DayRings alarm d → ⊥)
+
+abbrev μ-loop : tie.MeasureT-loop
+μ-loop starts alarm to day₀ month₀ day month = to - day
+
+returns : tie.Need-returns Inv-loop μ-loop
+returns c = tells-none (c .before .args .alarm) _ _ (λ d l h. omega (arith, c .if1 .taken))
+
+month-of-requires : tie.Need-month-of-requires Inv-loop μ-loop
+month-of-requires c κs = (c .before .pre .0, omega arith)
+
+loop-holds : tie.Need-loop-holds Inv-loop μ-loop
+loop-holds c = (c .month-of .ensures, omega arith, λ d l h k. omega arith)
+
+rings-in-requires : tie.Need-rings-in-requires Inv-loop μ-loop
+rings-in-requires c κs =
+    let l = c .before .loop in
+    let s = c .before .before .before .before in
+    (s .pre .0, l .inv .0, month-not-last (l .day) (l .month) (l .inv .0) (omega (arith, c .loop-test .taken, s .pre .1)), c .loop-test .taken)
+
+returns-2 : tie.Need-returns-2 Inv-loop μ-loop
+returns-2 c =
+    let l = c .before .before .before .loop in
+    tells-some _ _ (l .day) _ (l .month) (l .inv .1) (c .before .rings-in .ensures .yes (c .if2 .taken))
+
+add-month : tie.Need-add-month Inv-loop μ-loop
+add-month c =
+    let l = c .before .before .before .loop in
+    let m = l .inv .0 .known in
+    omega arith
+
+month-start-requires : tie.Need-month-start-requires Inv-loop μ-loop
+month-start-requires c κs =
+    let l = c .before .before .before .loop in
+    let s = c .before .before .before .before .before .before in
+    let m = month-not-last (l .day) (l .month) (l .inv .0) (omega (arith, c .before .before .loop-test .taken, s .pre .1)) in
+    (s .pre .0, omega arith)
+
+loop-less : tie.Need-loop-less Inv-loop μ-loop
+loop-less c =
+    let l = c .before .before .before .before .loop in
+    let t = c .before .before .before .loop-test .taken in
+    omega (arith, l .inv .0 .to, c .month-start .ensures)
+
+loop-again : tie.Need-loop-again Inv-loop μ-loop
+loop-again c =
+    let l = c .before .before .before .before .loop in
+    let t = c .before .before .before .loop-test .taken in
+    let s = c .before .before .before .before .before .before .before in
+    let e = c .month-start .ensures in
+    let m = month-not-last (l .day) (l .month) (l .inv .0) (omega (arith, t, s .pre .1)) in (
+      subst (λ (d : ℕ). InMonth d (l .month + 1)) (sym e) (month-first (l .month + 1) (omega arith)),
+      omega (arith, l .inv .0 .to, l .inv .1),
+      λ d b h k. none-more _ _ (l .day) _ (l .month) (l .inv .2)
+          (c .before .before .rings-in .ensures .no (c .before .if2 .left)) d b
+          (subst (λ (n : ℕ). d < n) e h) k,
+    )
+
+returns-3 : tie.Need-returns-3 Inv-loop μ-loop
+returns-3 c =
+    let l = c .before .loop in
+    tells-none _ _ _ (λ d b h. l .inv .2 d b (omega (arith, c .loop-test .left)) h)
+
+pub rings-on-spec : {M : Type 1} → statement M
+rings-on-spec =
+    tie.close
+    (tie.spec
+    Inv-loop
+    μ-loop
+    returns
+    month-of-requires
+    loop-holds
+    rings-in-requires
+    returns-2
+    add-month
+    month-start-requires
+    loop-less
+    loop-again
+    returns-3)
