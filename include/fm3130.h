@@ -14,6 +14,7 @@
  *   fm3130_fresh        makes the image of a fresh device
  *   fm3130_run          does a list of events on a device
  *   fm3130_step         does one event, and says which field of the calendar it changed
+ *   fm3130_catch_up     does up to a leap year of ticks in one call, for a host that slept
  *   fm3130_view_number  whether a part of the memory or of the registers can be viewed
  *   fm3130_view         that part itself, never a copy (an inline function, below)
  *   fm3130_mend         puts an old image right that holds an impossible date or time
@@ -122,9 +123,13 @@ enum fm3130_number {
     FM3130_SHORT_ANSWERS = 4,    /* answers shorter than events; fm3130_step: told shorter than
                                     two bytes; fm3130_mend: changes shorter than the list */
     FM3130_UNKNOWN_SELECTOR = 5, /* viewer: selector neither 0 (memory) nor 1 (registers) */
-    FM3130_PAST_THE_END = 6      /* viewer: start + length (exact sum) passes the end of the
+    FM3130_PAST_THE_END = 6,     /* viewer: start + length (exact sum) passes the end of the
                                     chosen bytes */
+    FM3130_TOO_MANY_TICKS = 8    /* catching up: more ticks than FM3130_MOST_TICKS */
 };
+
+/* The most ticks that fm3130_catch_up does in one call, those of a leap year. */
+#define FM3130_MOST_TICKS 31622400
 
 /*
  * The fields of the calendar that a tick can change, the second byte that fm3130_step tells: the
@@ -229,6 +234,27 @@ struct fm3130_ran fm3130_run(uint8_t *image, uint64_t image_length, uint8_t *mem
  */
 uint64_t fm3130_step(uint8_t *image, uint64_t image_length, uint8_t *memory, uint64_t memory_length,
                      uint64_t event, uint8_t *told, uint64_t told_length);
+
+/*
+ * Catches up after sleep: many ticks in one call, in about a microsecond. The image is left exactly
+ * as fm3130_run leaves it on a list of so many events FM3130_TICK: registers, calendar, AF and CF,
+ * whatever the alarm, with an invalid calendar, a halted oscillator or no supply too. The memory is
+ * not needed: a tick does not touch it. A host that slept longer calls more than once.
+ *
+ *   image    image_length bytes, must be 64 and an image as fm3130_run takes it; read and written
+ *   ticks    how many seconds passed; 0 changes nothing
+ *
+ * Returns  image
+ *   0      the state after the last tick
+ *   2      unchanged (image_length is not 64, or no well-formed state writes the image)
+ *   8      unchanged (ticks is above FM3130_MOST_TICKS)
+ *
+ * Which field of the calendar changed is not said: compare the calendars before and after.
+ *
+ * Proved: CatchUpSettled, crates/sleep/specs/CatchUp.antt; that it is the list run: AsTheListRun,
+ * crates/sleep/specs/Laws.antt. Allocates nothing, keeps nothing, thread-safe on distinct buffers.
+ */
+uint64_t fm3130_catch_up(uint8_t *image, uint64_t image_length, uint64_t ticks);
 
 /*
  * Whether a part of the memory or of the registers can be viewed.

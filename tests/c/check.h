@@ -26,6 +26,9 @@ unsigned long check_frames(const char *frames, const char *lines);
 /* fm3130_step: one event, and the field of the calendar that it changed. */
 void check_steps(void);
 
+/* fm3130_catch_up: many ticks in one call, held to the list run of as many. */
+void check_catching_up(void);
+
 /*
  * fm3130_mend: every byte in every calendar field, every month's end, the list, every refusal.
  * Returns the number of images.

@@ -5,8 +5,9 @@
  *
  * K12's exact run, whole and in pieces; every refusal with untouched buffers; their order; the
  * fresh image; the viewer's number and the inline viewer; one event by itself (step.c); images put right
- * (mend.c); then some 320,000 events against the second program (frames.c), and every trim setting of
- * every error against a plain search (trim.c). The first difference ends it with status 1.
+ * (mend.c); many ticks in one call (sleep.c); then some 320,000 events against the second program
+ * (frames.c), and every trim setting of every error against a plain search (trim.c). The first difference
+ * ends it with status 1.
  */
 #include <stdarg.h>
 #include <stdio.h>
@@ -332,6 +333,7 @@ int main(int count, char **words) {
     check_fresh();
     check_views();
     check_steps();
+    check_catching_up();
     unsigned long events = check_frames(words[1], words[2]);
     if (events < 100000) {
         differ("only %lu events in %s, must be at least 100000", events, words[1]);
