@@ -47,8 +47,8 @@ impl Progress {
     }
 
     /// So many events more are done.
-    pub fn advance(&mut self, events: usize) {
-        self.done = self.done.saturating_add(events as u64);
+    pub fn advance(&mut self, events: u64) {
+        self.done = self.done.saturating_add(events);
         if self.is_shown && !self.gives_way && self.is_due() {
             self.draw();
         }

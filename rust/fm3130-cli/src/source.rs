@@ -13,6 +13,9 @@ use crate::script::Plan;
 /// The most events of a chunk.
 pub const CHUNK: usize = 65_536;
 
+/// The ticks that a source hands out as one run, from so many on.
+const LONG: u64 = 60;
+
 /// A source of events.
 pub trait Source {
     /// The number of events of the whole source.
@@ -20,6 +23,12 @@ pub trait Source {
 
     /// Puts the next events into a chunk, at most [`CHUNK`]; none at the end.
     fn fill(&mut self, chunk: &mut Vec<u8>) -> Outcome;
+
+    /// Takes a whole run of ticks that comes next, where the source knows its length; else 0, and
+    /// nothing is taken.
+    fn take_ticks(&mut self) -> u64 {
+        0
+    }
 }
 
 /// The events of a script's plan.
@@ -40,6 +49,13 @@ impl PlanSource {
             given: 0,
         }
     }
+
+    /// The ticks left of the step under way, if it is one of ticks that are worth taking at once.
+    fn long_ticks(&self) -> Option<u64> {
+        let step = self.plan.steps.get(self.step)?;
+        let is_long = step.events == [event::TICK] && step.times >= LONG;
+        is_long.then(|| step.times - self.given)
+    }
 }
 
 impl Source for PlanSource {
@@ -49,7 +65,11 @@ impl Source for PlanSource {
 
     fn fill(&mut self, chunk: &mut Vec<u8>) -> Outcome {
         chunk.clear();
-        while let Some(step) = self.plan.steps.get(self.step) {
+        // A long run of ticks begins a chunk, so that it can be taken instead.
+        while chunk.is_empty() || self.long_ticks().is_none() {
+            let Some(step) = self.plan.steps.get(self.step) else {
+                return Ok(());
+            };
             let length = step.events.len() as u64;
             let end = step.times.saturating_mul(length);
             while self.given < end && chunk.len() < CHUNK {
@@ -63,6 +83,15 @@ impl Source for PlanSource {
             self.given = 0;
         }
         Ok(())
+    }
+
+    fn take_ticks(&mut self) -> u64 {
+        let Some(ticks) = self.long_ticks() else {
+            return 0;
+        };
+        self.step += 1;
+        self.given = 0;
+        ticks
     }
 }
 
@@ -139,13 +168,32 @@ mod tests {
     use super::*;
     use crate::script::Step;
 
-    #[test]
-    fn chunks_joined_are_the_plan() {
-        let step = |events: &[u8], times| Step {
+    fn step(events: &[u8], times: u64) -> Step {
+        Step {
             events: events.to_vec(),
             times,
-        };
-        let steps = vec![step(&[0], 1), step(&[3, 2, 3], 50_000), step(&[4], 7)];
+        }
+    }
+
+    #[test]
+    fn long_runs_of_ticks_are_taken_whole() {
+        let steps = vec![step(&[0], 1), step(&[4], 59), step(&[4], 60), step(&[1], 1)];
+        let mut source = PlanSource::new(Plan { steps });
+        let mut chunk = Vec::new();
+        assert_eq!(source.take_ticks(), 0);
+        source.fill(&mut chunk).unwrap();
+        assert_eq!(chunk.len(), 60);
+        assert_eq!(source.take_ticks(), 60);
+        assert_eq!(source.take_ticks(), 0);
+        source.fill(&mut chunk).unwrap();
+        assert_eq!(chunk, [1]);
+        source.fill(&mut chunk).unwrap();
+        assert!(chunk.is_empty());
+    }
+
+    #[test]
+    fn chunks_joined_are_the_plan() {
+        let steps = vec![step(&[0], 1), step(&[3, 2, 3], 50_000), step(&[4], 700)];
         let mut source = PlanSource::new(Plan { steps });
         let (mut joined, mut chunk) = (Vec::new(), Vec::new());
         loop {
@@ -158,7 +206,7 @@ mod tests {
         }
         let mut expected = vec![0];
         expected.extend([3, 2, 3].repeat(50_000));
-        expected.extend([4; 7]);
+        expected.extend([4; 700]);
         assert_eq!(joined, expected);
         assert_eq!(source.total(), expected.len() as u64);
     }

@@ -100,6 +100,39 @@ fn a_year_of_seconds_passes() {
     let folder = Folder::new("year");
     let ran = folder.run_with(&["run", "-"], "[ D0 01 00 ] t*31622400");
     assert!(ran.output.contains(
-        "t*31622400 31622400 ticks: 00:00:00, 01/01/00, day 1 -> 00:00:00, 01/01/01, day 3"
+        "t*31622400 31622400 ticks (366 days): 00:00:00, 01/01/00, day 1 -> 00:00:00, 01/01/01, day 3, a \
+         year passed"
     ));
+}
+
+/// The calendar set to 31/12/99, an alarm at 00:00:30 on the pin, then a sleep.
+const SLEEP: &str =
+    "[ D0 01 00 ] [ D0 00 0A ] [ D0 02 50 59 23 07 31 12 99 30 00 00 80 80 80 ] [ D0 00 08 ] \
+                     t*100_000 [ D0 02 [ D1 r:7 ]";
+
+#[test]
+fn a_sleep_says_and_leaves_what_single_ticks_do() {
+    let folder = Folder::new("sleep");
+    let slept = folder.run_with(&["run", "-", "--image", "i"], SLEEP);
+    let awake = folder.run_with(&["run", "-", "--image", "j", "--answers", "a"], SLEEP);
+    assert!(slept.output.contains(
+        "t*100000 100000 ticks (1 day, 3 hours, 46 minutes, 40 seconds): 23:59:50, 31/12/99, day 7 -> \
+         03:46:30, 02/01/00, day 2, a year passed, AF set, CF set; ACS pin after tick 40: alarm, pulled low"
+    ));
+    let without_files = |text: &str| -> Vec<String> {
+        let lines = text.lines().filter(|line| !line.contains("begins fresh"));
+        lines.map(str::to_string).collect()
+    };
+    assert_eq!(without_files(&slept.output), without_files(&awake.output));
+    assert_eq!(folder.read("i"), folder.read("j"));
+}
+
+#[test]
+fn the_longest_sleep_is_done_in_parts() {
+    let folder = Folder::new("long-sleep");
+    let ran = folder.run_with(&["run", "-"], "[ D0 01 00 ] t*4294967295");
+    assert!(ran.output.contains(
+        "t*4294967295 4294967295 ticks (49710 days, 6 hours, 28 minutes, 15 seconds): 00:00:00, 01/01/00, \
+         day 1 -> 06:28:15, 06/02/36, day 4, a year passed, CF set"
+    ), "{}", ran.output);
 }

@@ -46,6 +46,8 @@ extern "C" {
         told_length: u64,
     ) -> u64;
 
+    fn fm3130_catch_up(image: *mut u8, image_length: u64, ticks: u64) -> u64;
+
     fn fm3130_view_number(
         image: *const u8,
         image_length: u64,
@@ -115,6 +117,13 @@ pub fn step(
             told.len() as u64,
         )
     };
+    Refusal::outcome_of(number)
+}
+
+/// Does many ticks in one call.
+pub fn catch_up(image: &mut [u8], ticks: u64) -> Result<(), Refusal> {
+    // SAFETY: pointer and length are those of one live, exclusive slice.
+    let number = unsafe { fm3130_catch_up(image.as_mut_ptr(), image.len() as u64, ticks) };
     Refusal::outcome_of(number)
 }
 

@@ -184,6 +184,33 @@ impl Device {
         Change::all_of(&list, count)
     }
 
+    /// Catches up after sleep: does many ticks in one call, as [`Device::run`] does a list of them,
+    /// but without the answers and in about a microsecond. 0 ticks change nothing.
+    ///
+    /// # Errors
+    ///
+    /// [`Refusal::TooManyTicks`] if there are more than [`crate::MOST_TICKS`]; then nothing was done.
+    ///
+    /// ```
+    /// use fm3130::{event, Device, Refusal, MOST_TICKS};
+    ///
+    /// let mut device = Device::fresh();
+    /// // Start, D0h, 01h, 00h, Stop: the oscillator runs.
+    /// let mut events = vec![event::START];
+    /// for byte in [0xD0, 0x01, 0x00] {
+    ///     events.extend(event::written_byte(byte));
+    /// }
+    /// events.push(event::STOP);
+    /// device.run(&events)?;
+    /// device.catch_up(86_400)?;
+    /// assert_eq!(device.calendar().to_string(), "00:00:00, 02/01/00, day 2");
+    /// assert_eq!(device.catch_up(MOST_TICKS + 1), Err(Refusal::TooManyTicks));
+    /// # Ok::<(), Refusal>(())
+    /// ```
+    pub fn catch_up(&mut self, ticks: u64) -> Result<(), Refusal> {
+        archive::catch_up(&mut self.image, ticks)
+    }
+
     /// The state image: its first 15 bytes are the registers.
     ///
     /// ```

@@ -66,6 +66,30 @@ pub fn step(
     archive::step(image, memory, u64::from(event), told)
 }
 
+/// Does many ticks on a state image in one call: the image is left as [`run`] leaves it on a list of
+/// so many ticks. 0 ticks change nothing.
+///
+/// # Errors
+///
+/// [`Refusal::Image`] or [`Refusal::TooManyTicks`] (more than [`crate::MOST_TICKS`]), the first that
+/// applies; then the image has not changed.
+///
+/// ```
+/// use fm3130::{Refusal, MOST_TICKS};
+///
+/// let mut image = [0; 64];
+/// fm3130::fresh(&mut image)?;
+/// image[1] = 0x00; // the oscillator runs
+/// fm3130::catch_up(&mut image, MOST_TICKS)?;
+/// assert_eq!(image[15..22], [0x00, 0x00, 0x00, 3, 0x01, 0x01, 0x01]); // 01/01/01, day 3
+/// assert_eq!(fm3130::catch_up(&mut image, MOST_TICKS + 1), Err(Refusal::TooManyTicks));
+/// assert_eq!(fm3130::catch_up(&mut image[1..], MOST_TICKS + 1), Err(Refusal::Image));
+/// # Ok::<(), Refusal>(())
+/// ```
+pub fn catch_up(image: &mut [u8], ticks: u64) -> Result<(), Refusal> {
+    archive::catch_up(image, ticks)
+}
+
 /// Writes the image of the fresh state: power on, no transfer, both addresses 0.
 ///
 /// # Errors

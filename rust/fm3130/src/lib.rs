@@ -12,7 +12,7 @@
 //! * [`State`], [`Calendar`], [`Pin`] and [`registers`] say in words what a state holds.
 //! * [`Rolled`] says which field of the calendar a tick changed.
 //! * [`Device::mend`] puts an impossible date or time right; [`Change`] is a register that it changed.
-//! * [`run`], [`step`], [`fresh`], [`view`] and [`mend`] are the archive's entries on slices of any
+//! * [`run`], [`step`], [`catch_up`], [`fresh`], [`view`] and [`mend`] are the archive's entries on slices of any
 //!   length.
 //! * [`Refusal`] is why an entry did nothing, with 01's number.
 //! * [`trim`] proposes and checks trim settings of another maker's clock; it needs no device.
@@ -56,7 +56,7 @@ pub use answer::{Answer, Pin, PinFunction};
 pub use calendar::Calendar;
 pub use change::Change;
 pub use device::Device;
-pub use entries::{fresh, mend, run, step, view};
+pub use entries::{catch_up, fresh, mend, run, step, view};
 pub use refusal::Refusal;
 pub use rolled::{Rolled, Told};
 pub use state::{Phase, Power, Side, State};
@@ -66,6 +66,9 @@ pub const IMAGE_BYTES: usize = 64;
 
 /// The length of the memory.
 pub const MEMORY_BYTES: usize = 8192;
+
+/// The most ticks that [`catch_up`] does in one call, those of a leap year.
+pub const MOST_TICKS: u64 = 31_622_400;
 
 /// The number of registers, 00h to 0Eh; they are the first bytes of an image.
 pub const REGISTER_COUNT: usize = 15;

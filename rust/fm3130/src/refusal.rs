@@ -4,7 +4,7 @@
 use std::error::Error;
 use std::fmt;
 
-/// Why an entry did nothing, by 01's table. Under every refusal nothing was written.
+/// Why an entry did nothing, by 01's table and its later numbers. Under every refusal nothing was written.
 ///
 /// They are tested in the order of their numbers, and the first that applies is given.
 ///
@@ -31,10 +31,12 @@ pub enum Refusal {
     Selector,
     /// 6: the viewer's start + length passes the end of the chosen bytes.
     PastTheEnd,
+    /// 8: more ticks to catch up with than a leap year has.
+    TooManyTicks,
 }
 
 impl Refusal {
-    /// 01's number, 1 to 6.
+    /// The number: 1 to 6 of 01's table, or 8.
     ///
     /// ```
     /// assert_eq!(fm3130::Refusal::Image.number(), 2);
@@ -47,6 +49,7 @@ impl Refusal {
             Refusal::ShortAnswers => 4,
             Refusal::Selector => 5,
             Refusal::PastTheEnd => 6,
+            Refusal::TooManyTicks => 8,
         }
     }
 
@@ -63,12 +66,13 @@ impl Refusal {
             Refusal::ShortAnswers => "answers shorter than events",
             Refusal::Selector => "selector neither 0 (memory) nor 1 (registers)",
             Refusal::PastTheEnd => "start + length passes the end of the chosen bytes",
+            Refusal::TooManyTicks => "more than 31,622,400 ticks",
         }
     }
 
     /// The outcome that a number of the archive stands for.
     ///
-    /// The archive is proved to give no number above 6; should one come all the same, it counts as
+    /// The archive is proved to give no other number; should one come all the same, it counts as
     /// the last refusal rather than as a reason to panic.
     pub(crate) fn outcome_of(number: u64) -> Result<(), Refusal> {
         Err(match number {
@@ -78,7 +82,8 @@ impl Refusal {
             3 => Refusal::UnknownEvent,
             4 => Refusal::ShortAnswers,
             5 => Refusal::Selector,
-            _ => Refusal::PastTheEnd,
+            6 => Refusal::PastTheEnd,
+            _ => Refusal::TooManyTicks,
         })
     }
 }

@@ -10,6 +10,7 @@ mod meaning;
 mod moment;
 mod play;
 mod resume;
+mod sleep;
 mod ticks;
 
 pub use grouping::{Grouping, Listener};

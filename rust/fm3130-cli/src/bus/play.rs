@@ -1,9 +1,10 @@
 // SPDX-License-Identifier: Apache-2.0
 //! Lets a device do the events of a source, chunk by chunk.
 
-use fm3130::{event, Answer, Device, Pin, Refusal, Rolled};
+use fm3130::{event, Answer, Device, Pin, Refusal, Rolled, MOST_TICKS};
 
 use super::moment::{Moment, TickRun};
+use super::sleep;
 use crate::failure::{Failure, Outcome};
 use crate::files::Replacement;
 use crate::progress::Progress;
@@ -27,7 +28,7 @@ pub struct Outputs<'run> {
     pub observers: Vec<&'run mut dyn Observer>,
     /// Whether an observer prints words.
     pub prints: bool,
-    /// The file for the answer bytes.
+    /// The file for the answer bytes; without one, long runs of ticks are done at once.
     pub answers: Option<&'run mut Replacement>,
 }
 
@@ -37,6 +38,15 @@ pub fn play(device: &mut Device, source: &mut dyn Source, outputs: &mut Outputs)
     let mut chunk = Vec::with_capacity(CHUNK);
     let mut answers = vec![0; CHUNK];
     loop {
+        let ticks = match outputs.answers {
+            Some(_) => 0,
+            None => source.take_ticks(),
+        };
+        if ticks > 0 {
+            sleep_through(device, ticks, outputs)?;
+            progress.advance(ticks);
+            continue;
+        }
         source.fill(&mut chunk)?;
         if chunk.is_empty() {
             break;
@@ -48,7 +58,7 @@ pub fn play(device: &mut Device, source: &mut dyn Source, outputs: &mut Outputs)
         if let Some(file) = &mut outputs.answers {
             file.write(&answers[..chunk.len()])?;
         }
-        progress.advance(chunk.len());
+        progress.advance(chunk.len() as u64);
     }
     progress.clear();
     for observer in &mut outputs.observers {
@@ -125,6 +135,19 @@ fn play_ticks(
     };
     for observer in &mut outputs.observers {
         observer.ticks(&run)?;
+    }
+    Ok(())
+}
+
+/// Does a run of ticks at once: nobody asked for their answers.
+fn sleep_through(device: &mut Device, ticks: u64, outputs: &mut Outputs) -> Outcome {
+    let mut left = ticks;
+    while left > 0 {
+        let run = sleep::through(device, left.min(MOST_TICKS)).map_err(refused)?;
+        left -= run.count;
+        for observer in &mut outputs.observers {
+            observer.ticks(&run)?;
+        }
     }
     Ok(())
 }

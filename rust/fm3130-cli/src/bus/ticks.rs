@@ -77,6 +77,9 @@ impl fmt::Display for TickReport {
     fn fmt(&self, formatter: &mut fmt::Formatter<'_>) -> fmt::Result {
         let plural = if self.count == 1 { "" } else { "s" };
         write!(formatter, "{} tick{plural}", self.count)?;
+        if self.count >= MINUTE {
+            write!(formatter, " ({})", span(self.count))?;
+        }
         if let Some(clocks) = self.inside {
             write!(formatter, " after {clocks} clocks of a byte")?;
         }
@@ -98,6 +101,25 @@ impl fmt::Display for TickReport {
     }
 }
 
+/// The seconds of a minute; shorter times are not put into words.
+const MINUTE: u64 = 60;
+
+/// So many seconds as days, hours, minutes and seconds, leaving out what there is none of.
+fn span(seconds: u64) -> String {
+    let parts = [
+        (seconds / 86_400, "day"),
+        (seconds / 3_600 % 24, "hour"),
+        (seconds / MINUTE % 60, "minute"),
+        (seconds % MINUTE, "second"),
+    ];
+    let words: Vec<String> = parts
+        .into_iter()
+        .filter(|(number, _)| *number > 0)
+        .map(|(number, unit)| format!("{number} {unit}{}", if number == 1 { "" } else { "s" }))
+        .collect();
+    words.join(", ")
+}
+
 #[cfg(test)]
 mod tests {
     use super::*;
@@ -115,6 +137,17 @@ mod tests {
             rolled: rolled.unwrap_or(Rolled::Nothing),
             pin_changes,
         }
+    }
+
+    #[test]
+    fn a_span_leaves_out_what_there_is_none_of() {
+        assert_eq!(span(60), "1 minute");
+        assert_eq!(span(86_401), "1 day, 1 second");
+        assert_eq!(span(31_622_400), "366 days");
+        assert_eq!(
+            span(31_000_000),
+            "358 days, 19 hours, 6 minutes, 40 seconds"
+        );
     }
 
     #[test]
@@ -143,7 +176,7 @@ mod tests {
         report.extend(&run(&mut device, 15, vec![(3, alarm)]));
         assert_eq!(
             report.to_string(),
-            "65 ticks: 00:00:00, 01/01/00, day 1 -> 00:01:05, 01/01/00, day 1, a minute passed; \
+            "65 ticks (1 minute, 5 seconds): 00:00:00, 01/01/00, day 1 -> 00:01:05, 01/01/00, day 1, a minute passed; \
              ACS pin after tick 53: alarm, pulled low"
         );
     }

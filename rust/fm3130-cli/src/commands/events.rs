@@ -50,7 +50,7 @@ fn for_each_chunk(source: &mut dyn Source, mut take: impl FnMut(&[u8]) -> Outcom
             return Ok(());
         }
         take(&chunk)?;
-        progress.advance(chunk.len());
+        progress.advance(chunk.len() as u64);
     }
 }
 
