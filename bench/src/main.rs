@@ -2,17 +2,20 @@
 //! Times the proved list run beside plain programs of the same shape, and prints the tables.
 //!
 //!     bench                      all tables
+//!     bench --sleep              the table of catching up alone
 //!     bench --count LIST SIDE    one run, for valgrind to count
 //!
 //! * [`traffic`]: the lists of events.
 //! * [`sides`]: the programs; [`plain`] is the one in Rust that is written for speed.
 //! * [`timing`], [`counting`]: the clock, and instructions by valgrind.
+//! * [`sleeping`]: many ticks in one call.
 //! * [`report`]: the tables.
 
 mod counting;
 mod plain;
 mod report;
 mod sides;
+mod sleeping;
 mod timing;
 mod traffic;
 
@@ -24,9 +27,10 @@ fn main() {
     let words: Vec<String> = std::env::args().skip(1).collect();
     match words.as_slice() {
         [] => print_tables(),
+        [option] if option == "--sleep" => println!("{}", report::sleeps(&sleeping::all())),
         [option, list, side] if option == "--count" => run_for_valgrind(list, side),
         _ => {
-            eprintln!("usage: bench [--count LIST SIDE]");
+            eprintln!("usage: bench [--sleep | --count LIST SIDE]");
             std::process::exit(2);
         }
     }
@@ -53,6 +57,7 @@ fn print_tables() {
         .collect();
     println!("\n{}", report::speeds(&findings));
     println!("{}", report::calls(&call_times(&lists[0])));
+    println!("{}", report::sleeps(&sleeping::all()));
 }
 
 /// Time and instructions of every side on one list.

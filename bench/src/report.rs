@@ -1,6 +1,7 @@
 // SPDX-License-Identifier: Apache-2.0
 //! The tables, in Markdown.
 
+use crate::sleeping::Slept;
 use crate::timing::CALL_LENGTHS;
 use std::fs;
 use std::thread::available_parallelism;
@@ -80,6 +81,26 @@ pub fn calls(nanoseconds: &[[f64; 2]]) -> String {
             "| {length} | {proved:.0} | {:.2} | {plain:.0} | {:.2} |\n",
             proved / events,
             plain / events
+        );
+    }
+    table
+}
+
+/// A leap year of ticks in one call, by the alarm that is set.
+pub fn sleeps(slept: &[Slept]) -> String {
+    let mut table = String::from(
+        "| alarm | proved, ns a call | plain Rust, ns a call | a call for no tick, ns | an empty list run, ns | the ticks one by one, ms |\n\
+         |---|---|---|---|---|---|\n",
+    );
+    for sleep in slept {
+        table += &format!(
+            "| {} | {:.0} | {:.0} | {:.0} | {:.0} | {:.0} |\n",
+            sleep.alarm,
+            sleep.proved,
+            sleep.plain,
+            sleep.none,
+            sleep.empty,
+            sleep.single / 1.0e6
         );
     }
     table

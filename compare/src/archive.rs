@@ -47,6 +47,7 @@ mod foreign {
             changes: *mut u8,
             changes_length: u64,
         ) -> Mended;
+        pub fn fm3130_catch_up(image: *mut u8, image_length: u64, ticks: u64) -> u64;
         pub fn fm3130_trim_check(error: i32, sign: u64, code: u64) -> u64;
         pub fn fm3130_trim_residue(error: i32, sign: u64, code: u64) -> i32;
         pub fn fm3130_trim_propose(error: i32) -> u64;
@@ -106,6 +107,12 @@ pub fn mend(image: &mut [u8], changes: &mut [u8]) -> Mended {
             changes.len() as u64,
         )
     }
+}
+
+/// Many ticks in one call; the number of the refusal, or 0.
+pub fn catch_up(image: &mut [u8], ticks: u64) -> u64 {
+    // SAFETY: a slice of Rust's is non-null, and its length is its own.
+    unsafe { foreign::fm3130_catch_up(image.as_mut_ptr(), image.len() as u64, ticks) }
 }
 
 /// Writes the fresh image; the number of 01's table.
