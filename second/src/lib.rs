@@ -17,6 +17,7 @@
 //! * [`catch_up`]: many ticks in one call, by plain counting and by day numbers.
 //! * [`day_numbers`]: the count by day numbers, which stands by itself.
 //! * [`trim`]: trim settings of another maker's clock.
+//! * [`wire`]: the master's side of one whole transaction.
 //! * [`host`]: small helpers that play the bus master.
 //! * [`table`]: the cases K1 to K12 of 01, run over the bus.
 //! * [`generate`]: lists of events to run on this and on another program.
@@ -34,6 +35,7 @@ pub mod rolled;
 pub mod state;
 pub mod table;
 pub mod trim;
+pub mod wire;
 
 pub use calendar::Calendar;
 pub use device::{Device, LogicalDevice, Phase, Power, Transfer};
