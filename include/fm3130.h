@@ -19,6 +19,13 @@
  *   fm3130_view         that part itself, never a copy (an inline function, below)
  *   fm3130_mend         puts an old image right that holds an impossible date or time
  *
+ * Four functions are the other end of the wire. A host that uses them needs to know no clock:
+ *
+ *   fm3130_write_events  the events of a whole write to the memory, ready for fm3130_run
+ *   fm3130_write_told    from the answers: which data bytes were acknowledged
+ *   fm3130_read_events   the events of a whole read from the memory, ready for fm3130_run
+ *   fm3130_read_told     from the answers: the bytes that were read
+ *
  * Three more functions, at the end, are about another maker's clock and need no device:
  *
  *   fm3130_trim_check    judges a trim setting that any program proposes
@@ -349,6 +356,142 @@ struct fm3130_mended {
  */
 struct fm3130_mended fm3130_mend(uint8_t *image, uint64_t image_length, uint8_t *changes,
                                  uint64_t changes_length);
+
+/*
+ * The other end of the wire: a master's whole transactions with the memory. Of the four functions
+ * two make a transaction's events and two say what the answers to them tell; none needs a device,
+ * and the answers may come from fm3130_run or from a real part on the bench.
+ *
+ *   struct fm3130_filled sent = fm3130_write_events(0x1000, bytes, 1, events, sizeof events);
+ *   fm3130_run(image, sizeof image, memory, sizeof memory, events, sent.count, answers, sent.count);
+ *   fm3130_write_told(1, answers, sent.count, flags, sizeof flags);
+ *
+ * With the device powered and no other event between, bytes written to unprotected addresses and
+ * then read come back the same. Proved: round-trip and through, crates/roundtrip/proofs.
+ */
+
+/*
+ * Numbers of the master's functions, their own: 0 is done; every other is a refusal, under which
+ * nothing is written. They are tested in this order, each function those that are named there, and
+ * the first that applies is given.
+ */
+enum fm3130_master_number {
+    FM3130_MASTER_OK = 0,            /* none below */
+    FM3130_MASTER_TOO_MANY = 1,      /* more than 256 data bytes */
+    FM3130_MASTER_READ_OF_NONE = 2,  /* a read of no data byte */
+    FM3130_MASTER_WRONG_ADDRESS = 3, /* the address is above 1FFFh */
+    FM3130_MASTER_LITTLE_ROOM = 4,   /* too little room in the buffer that is written */
+    FM3130_MASTER_WRONG_ANSWERS = 5  /* answers are not as many as the events */
+};
+
+/* The most data bytes of one transaction. */
+#define FM3130_MASTER_MOST 256
+
+/* How many events a transaction of so many data bytes has, and so how many answers. */
+#define FM3130_WRITE_EVENTS(count) (29 + 9 * (count))
+#define FM3130_READ_EVENTS(count) (39 + 9 * (count))
+
+/* What the master's functions return. */
+struct fm3130_filled {
+    uint64_t number; /* enum fm3130_master_number */
+    uint64_t count;  /* the bytes written, at the front of the buffer; 0 where refused */
+};
+
+/*
+ * The events of a whole write: Start, slave byte, address, the data bytes, Stop. At every ninth
+ * clock the master leaves the line high, so that the device's acknowledge is seen. A write of no
+ * bytes is accepted: it sets the address.
+ *
+ *   address  where the first byte goes; the next ones follow, from 1FFFh on to 0000h
+ *   bytes    bytes_length bytes, at most 256; read
+ *   events   events_length bytes, at least FM3130_WRITE_EVENTS(bytes_length); written
+ *
+ * Returns                        events
+ *   number 0, count the events   one byte for each event; bytes past them are unchanged
+ *   number 1, 3 or 4, count 0    unchanged
+ *
+ *   1      bytes_length is above 256
+ *   3      address is above 1FFFh
+ *   4      events_length is less than FM3130_WRITE_EVENTS(bytes_length)
+ *
+ * Proved: WriteEventsSettled, crates/master/specs/Outcome.antt. Allocates nothing, keeps nothing,
+ * thread-safe on distinct buffers.
+ */
+struct fm3130_filled fm3130_write_events(uint64_t address, const uint8_t *bytes,
+                                         uint64_t bytes_length, uint8_t *events,
+                                         uint64_t events_length);
+
+/*
+ * The events of a whole read: Start, slave byte, address, Start again, slave byte, the data bytes,
+ * Stop. The read sets its address first. After each data byte but the last the master's ninth clock
+ * is low, which asks for the next; after the last it is high, which ends the read.
+ *
+ *   address  where the first byte comes from; the next ones follow, from 1FFFh on to 0000h
+ *   count    how many bytes, 1 to 256
+ *   events   events_length bytes, at least FM3130_READ_EVENTS(count); written
+ *
+ * Returns                        events
+ *   number 0, count the events   one byte for each event; bytes past them are unchanged
+ *   number 1 to 4, count 0       unchanged
+ *
+ *   1      count is above 256
+ *   2      count is 0
+ *   3      address is above 1FFFh
+ *   4      events_length is less than FM3130_READ_EVENTS(count)
+ *
+ * Proved: ReadEventsSettled, crates/master/specs/Outcome.antt. Allocates nothing, keeps nothing,
+ * thread-safe on distinct buffers.
+ */
+struct fm3130_filled fm3130_read_events(uint64_t address, uint64_t count, uint8_t *events,
+                                        uint64_t events_length);
+
+/*
+ * What the answers to a write tell: a flag for each data byte, 1 if it was acknowledged, else 0. If
+ * the slave byte or an address byte went unacknowledged, every flag is 0.
+ *
+ *   count    how many data bytes were written, at most 256
+ *   answers  answers_length bytes, must be FM3130_WRITE_EVENTS(count), any values; read
+ *   flags    flags_length bytes, at least count; written
+ *
+ * Returns                            flags
+ *   number 0, count the data bytes   one byte for each, 1 or 0; bytes past them are unchanged
+ *   number 1, 4 or 5, count 0        unchanged
+ *
+ *   1      count is above 256
+ *   4      flags_length is less than count
+ *   5      answers_length is not FM3130_WRITE_EVENTS(count)
+ *
+ * Proved: WriteToldSettled, crates/master/specs/Outcome.antt. Allocates nothing, keeps nothing,
+ * thread-safe on distinct buffers.
+ */
+struct fm3130_filled fm3130_write_told(uint64_t count, const uint8_t *answers,
+                                       uint64_t answers_length, uint8_t *flags,
+                                       uint64_t flags_length);
+
+/*
+ * What the answers to a read tell: the bytes that were read; none if a slave byte or an address
+ * byte went unacknowledged.
+ *
+ *   count    how many data bytes were asked for, 1 to 256
+ *   answers  answers_length bytes, must be FM3130_READ_EVENTS(count), any values; read
+ *   bytes    bytes_length bytes, at least count; written
+ *
+ * Returns                              bytes
+ *   number 0, count the data bytes     the bytes as the line showed them; those past them unchanged
+ *   number 0, count 0                  unchanged: a slave or address byte went unacknowledged
+ *   number 1, 2, 4 or 5, count 0       unchanged
+ *
+ *   1      count is above 256
+ *   2      count is 0
+ *   4      bytes_length is less than count
+ *   5      answers_length is not FM3130_READ_EVENTS(count)
+ *
+ * Proved: ReadToldSettled, crates/master/specs/Outcome.antt. Allocates nothing, keeps nothing,
+ * thread-safe on distinct buffers.
+ */
+struct fm3130_filled fm3130_read_told(uint64_t count, const uint8_t *answers,
+                                      uint64_t answers_length, uint8_t *bytes,
+                                      uint64_t bytes_length);
 
 /*
  * Trim settings of another maker's clock (document 002), which knows nothing of a device.

@@ -34,6 +34,8 @@ void check_catching_up(void);
  * Returns the number of images.
  */
 unsigned long check_mends(void);
+/* The master's functions: exact events, bytes that come back, what answers tell, refusals. */
+void check_master(void);
 
 /*
  * Holds the trim functions to a plain search: every error in range with every setting, then what is

@@ -5,9 +5,9 @@
  *
  * K12's exact run, whole and in pieces; every refusal with untouched buffers; their order; the
  * fresh image; the viewer's number and the inline viewer; one event by itself (step.c); images put right
- * (mend.c); many ticks in one call (sleep.c); then some 320,000 events against the second program
- * (frames.c), and every trim setting of every error against a plain search (trim.c). The first difference
- * ends it with status 1.
+ * (mend.c); many ticks in one call (sleep.c); the master's side (master.c); then some 320,000 events against
+ * the second program (frames.c), and every trim setting of every error against a plain search (trim.c). The
+ * first difference ends it with status 1.
  */
 #include <stdarg.h>
 #include <stdio.h>
@@ -303,7 +303,7 @@ static void check_views(void) {
     check_untouched("views");
 }
 
-/* The version's parts and its text agree, and what the list run and mending return is two words. */
+/* The version's parts and its text agree, and what is returned is at most two words. */
 static void check_header(void) {
     char text[32];
     snprintf(text, sizeof text, "%d.%d.%d", FM3130_VERSION_MAJOR, FM3130_VERSION_MINOR,
@@ -313,6 +313,7 @@ static void check_header(void) {
     }
     check_equal("bytes of struct fm3130_ran", sizeof(struct fm3130_ran), 16);
     check_equal("bytes of struct fm3130_mended", sizeof(struct fm3130_mended), 16);
+    check_equal("bytes of struct fm3130_filled", sizeof(struct fm3130_filled), 16);
 }
 
 int main(int count, char **words) {
@@ -334,6 +335,7 @@ int main(int count, char **words) {
     check_views();
     check_steps();
     check_catching_up();
+    check_master();
     unsigned long events = check_frames(words[1], words[2]);
     if (events < 100000) {
         differ("only %lu events in %s, must be at least 100000", events, words[1]);

@@ -5,6 +5,7 @@
 //! are never null, and an exclusive slice overlaps no other slice that is alive: each function here
 //! takes slices and hands on exactly their pointers and lengths, so safe code cannot break the rule.
 
+use crate::master;
 use crate::refusal::Refusal;
 use crate::trim::{Setting, Sign};
 
@@ -20,6 +21,20 @@ struct Ran {
 struct Mended {
     number: u64,
     count: u64,
+}
+
+/// What the master's functions return.
+#[repr(C)]
+struct Filled {
+    number: u64,
+    count: u64,
+}
+
+impl Filled {
+    /// The count is at most the length of the buffer that was written, so it fits.
+    fn outcome(self) -> Result<usize, master::Refusal> {
+        master::Refusal::outcome_of(self.number).map(|()| self.count as usize)
+    }
 }
 
 extern "C" {
@@ -64,6 +79,32 @@ extern "C" {
         changes: *mut u8,
         changes_length: u64,
     ) -> Mended;
+
+    fn fm3130_write_events(
+        address: u64,
+        bytes: *const u8,
+        bytes_length: u64,
+        events: *mut u8,
+        events_length: u64,
+    ) -> Filled;
+
+    fn fm3130_read_events(address: u64, count: u64, events: *mut u8, events_length: u64) -> Filled;
+
+    fn fm3130_write_told(
+        count: u64,
+        answers: *const u8,
+        answers_length: u64,
+        flags: *mut u8,
+        flags_length: u64,
+    ) -> Filled;
+
+    fn fm3130_read_told(
+        count: u64,
+        answers: *const u8,
+        answers_length: u64,
+        bytes: *mut u8,
+        bytes_length: u64,
+    ) -> Filled;
 
     fn fm3130_trim_check(error: i32, sign: u64, code: u64) -> u64;
 
@@ -171,6 +212,63 @@ pub fn mend(image: &mut [u8], changes: &mut [u8]) -> Result<usize, Refusal> {
     };
     // The count is at most 7, so it fits.
     Refusal::outcome_of(mended.number).map(|()| mended.count as usize)
+}
+
+/// The events of a write.
+pub fn write_events(
+    address: u64,
+    bytes: &[u8],
+    events: &mut [u8],
+) -> Result<usize, master::Refusal> {
+    // SAFETY: as in `run`: the pointers and lengths of live slices, the written one exclusive.
+    let filled = unsafe {
+        fm3130_write_events(
+            address,
+            bytes.as_ptr(),
+            bytes.len() as u64,
+            events.as_mut_ptr(),
+            events.len() as u64,
+        )
+    };
+    filled.outcome()
+}
+
+/// The events of a read.
+pub fn read_events(address: u64, count: u64, events: &mut [u8]) -> Result<usize, master::Refusal> {
+    // SAFETY: pointer and length are those of one live, exclusive slice.
+    let filled =
+        unsafe { fm3130_read_events(address, count, events.as_mut_ptr(), events.len() as u64) };
+    filled.outcome()
+}
+
+/// What the answers to a write tell.
+pub fn write_told(count: u64, answers: &[u8], flags: &mut [u8]) -> Result<usize, master::Refusal> {
+    // SAFETY: as in `run`: the pointers and lengths of live slices, the written one exclusive.
+    let filled = unsafe {
+        fm3130_write_told(
+            count,
+            answers.as_ptr(),
+            answers.len() as u64,
+            flags.as_mut_ptr(),
+            flags.len() as u64,
+        )
+    };
+    filled.outcome()
+}
+
+/// What the answers to a read tell.
+pub fn read_told(count: u64, answers: &[u8], bytes: &mut [u8]) -> Result<usize, master::Refusal> {
+    // SAFETY: as in `run`: the pointers and lengths of live slices, the written one exclusive.
+    let filled = unsafe {
+        fm3130_read_told(
+            count,
+            answers.as_ptr(),
+            answers.len() as u64,
+            bytes.as_mut_ptr(),
+            bytes.len() as u64,
+        )
+    };
+    filled.outcome()
 }
 
 /// A sign as the archive takes it.

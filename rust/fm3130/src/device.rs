@@ -8,6 +8,7 @@ use crate::archive;
 use crate::calendar::Calendar;
 use crate::change::Change;
 use crate::entries;
+use crate::master;
 use crate::refusal::Refusal;
 use crate::rolled::{Rolled, Told};
 use crate::state::{Phase, Power, State};
@@ -209,6 +210,70 @@ impl Device {
     /// ```
     pub fn catch_up(&mut self, ticks: u64) -> Result<(), Refusal> {
         archive::catch_up(&mut self.image, ticks)
+    }
+
+    /// Writes bytes to the memory over the bus, from an address on and over 1FFFh to 0000h: one whole
+    /// transaction. Returns for each byte whether the device acknowledged it.
+    ///
+    /// A byte at a protected address is not acknowledged, and none after it is. Without power, none is.
+    ///
+    /// # Errors
+    ///
+    /// [`master::Refusal::TooMany`] above 256 bytes, [`master::Refusal::WrongAddress`] above 1FFFh;
+    /// then nothing was done.
+    ///
+    /// ```
+    /// use fm3130::{event, Device};
+    ///
+    /// let mut device = Device::fresh();
+    /// assert_eq!(device.write(0x1FFF, &[0x5A, 0xC3])?, [true, true]);
+    /// assert_eq!((device.memory()[0x1FFF], device.memory()[0x0000]), (0x5A, 0xC3));
+    /// device.step(event::POWER_LOST_WITH_BACKUP).unwrap();
+    /// assert_eq!(device.write(0x1FFF, &[0x00])?, [false]);
+    /// # Ok::<(), fm3130::master::Refusal>(())
+    /// ```
+    pub fn write(&mut self, address: u64, bytes: &[u8]) -> Result<Vec<bool>, master::Refusal> {
+        let mut events = vec![0; master::write_events_count(bytes.len().min(master::MOST))];
+        master::write_events(address, bytes, &mut events)?;
+        let answers = self.answers_to(&events);
+        let mut flags = vec![0; bytes.len()];
+        master::write_told(bytes.len() as u64, &answers, &mut flags)?;
+        Ok(flags.into_iter().map(|flag| flag == 1).collect())
+    }
+
+    /// Reads so many bytes of the memory over the bus, from an address on and over 1FFFh to 0000h: one
+    /// whole transaction. Returns the bytes; none if the device did not acknowledge, as without power.
+    ///
+    /// # Errors
+    ///
+    /// [`master::Refusal::TooMany`] above 256 bytes, [`master::Refusal::ReadOfNone`],
+    /// [`master::Refusal::WrongAddress`] above 1FFFh; then nothing was done.
+    ///
+    /// ```
+    /// use fm3130::Device;
+    ///
+    /// let mut device = Device::fresh();
+    /// device.write(0x1FFF, &[0x5A, 0xC3])?;
+    /// assert_eq!(device.read(0x1FFF, 3)?, [0x5A, 0xC3, 0x00]);
+    /// # Ok::<(), fm3130::master::Refusal>(())
+    /// ```
+    pub fn read(&mut self, address: u64, count: u64) -> Result<Vec<u8>, master::Refusal> {
+        let most = usize::try_from(count).map_or(master::MOST, |count| count.min(master::MOST));
+        let mut events = vec![0; master::read_events_count(most)];
+        master::read_events(address, count, &mut events)?;
+        let answers = self.answers_to(&events);
+        let mut bytes = vec![0; most];
+        let told = master::read_told(count, &answers, &mut bytes)?;
+        bytes.truncate(told);
+        Ok(bytes)
+    }
+
+    /// The answers to a master's events, which are known, so that the list run takes them.
+    fn answers_to(&mut self, events: &[u8]) -> Vec<u8> {
+        let mut answers = vec![0; events.len()];
+        // Number 0: the image is a state's, and every event of a master's transaction is below 8.
+        let _ = self.run_into(events, &mut answers);
+        answers
     }
 
     /// The state image: its first 15 bytes are the registers.

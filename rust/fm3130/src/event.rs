@@ -1,21 +1,24 @@
 // SPDX-License-Identifier: Apache-2.0
-//! The event bytes, and how a bus master makes bytes of clocks.
+//! The event bytes, and the clocks of single bytes. Whole transactions with the memory are in
+//! [`crate::master`]; the clocks of a byte here are those of a data byte there.
 //!
 //! ```
-//! use fm3130::{event, Device};
+//! use fm3130::{event, registers, Device};
 //!
-//! // Store 5Ah in the memory at 0123h.
+//! // Start the oscillator: 00h goes to register 01h.
 //! let mut events = vec![event::START];
-//! for byte in [0xA0, 0x01, 0x23, 0x5A] {
+//! for byte in [0xD0, 0x01, 0x00] {
 //!     events.extend(event::written_byte(byte));
 //! }
 //! events.push(event::STOP);
 //!
 //! let mut device = Device::fresh();
 //! device.run(&events)?;
-//! assert_eq!(device.memory()[0x0123], 0x5A);
+//! assert_eq!(device.registers()[registers::CALIBRATION], 0x00);
 //! # Ok::<(), fm3130::Refusal>(())
 //! ```
+
+use crate::master;
 
 /// A Start: begins a slave byte at any moment.
 pub const START: u8 = 0;
@@ -59,11 +62,10 @@ pub fn clock(line_is_high: bool) -> u8 {
 /// assert_eq!(fm3130::event::written_byte(0xA0), [3, 2, 3, 2, 2, 2, 2, 2, 3]);
 /// ```
 pub fn written_byte(byte: u8) -> [u8; 9] {
-    let mut clocks = [CLOCK_HIGH; 9];
-    for (place, event) in clocks.iter_mut().take(8).enumerate() {
-        *event = clock(byte & (0x80 >> place) != 0);
-    }
-    clocks
+    let mut events = [CLOCK_HIGH; master::write_events_count(1)];
+    // Accepted: one byte, a good address, and room for all events.
+    let _ = master::write_events(0, &[byte], &mut events);
+    first_data_byte(&events, master::write_events_count(0) - 1)
 }
 
 /// The nine clocks of a byte that the master reads: the line released for eight, and at the ninth
@@ -73,7 +75,18 @@ pub fn written_byte(byte: u8) -> [u8; 9] {
 /// assert_eq!(fm3130::event::read_byte(true), [3, 3, 3, 3, 3, 3, 3, 3, 2]);
 /// ```
 pub fn read_byte(acknowledges: bool) -> [u8; 9] {
+    let mut events = [CLOCK_HIGH; master::read_events_count(2)];
+    // Accepted, as above. The first of two bytes goes on, an only one is the last.
+    let _ = master::read_events(0, if acknowledges { 2 } else { 1 }, &mut events);
+    first_data_byte(&events, master::read_events_count(0) - 1)
+}
+
+/// The nine clocks of the first data byte of a transaction, which stand where its Stop would stand if
+/// it had none.
+fn first_data_byte(events: &[u8], place: usize) -> [u8; 9] {
     let mut clocks = [CLOCK_HIGH; 9];
-    clocks[8] = clock(!acknowledges);
+    for (clock, event) in clocks.iter_mut().zip(events.iter().skip(place)) {
+        *clock = *event;
+    }
     clocks
 }

@@ -6,7 +6,9 @@
 //! crate is its safe face in Rust. It adds no rule of the device: every event goes to the archive.
 //! The rules are those of the scope paper, called 01 here.
 //!
-//! * [`Device`] owns a state and its memory, and takes lists of events.
+//! * [`Device`] owns a state and its memory, takes lists of events, and reads and writes its memory
+//!   over the bus.
+//! * [`master`] is the other end of the wire: whole transactions, and what their answers tell.
 //! * [`event`] names the event bytes; [`Answer`] reads the answer bytes; [`selector`] names what a
 //!   viewer can show.
 //! * [`State`], [`Calendar`], [`Pin`] and [`registers`] say in words what a state holds.
@@ -27,6 +29,10 @@
 //! let answers = device.run(&[0, 3, 2, 3, 2, 2, 2, 2, 2, 3, 1])?;
 //! assert_eq!(answers, [5, 5, 4, 5, 4, 4, 4, 4, 4, 4, 5]);
 //!
+//! // Bytes go to the memory and come back over the bus, without a clock to be known.
+//! device.write(0x1000, &[0x01]).unwrap();
+//! assert_eq!(device.read(0x1000, 1).unwrap(), [0x01]);
+//!
 //! // Seconds pass only when the oscillator runs: a fresh device has it halted.
 //! device.run(&[event::TICK; 60])?;
 //! assert_eq!(device.calendar().to_string(), "00:00:00, 01/01/00, day 1");
@@ -45,6 +51,7 @@ mod change;
 mod device;
 mod entries;
 pub mod event;
+pub mod master;
 mod refusal;
 pub mod registers;
 mod rolled;
