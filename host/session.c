@@ -7,6 +7,9 @@
 
 #include "files.h"
 
+/* Where the lamp's byte lies. */
+enum { LAMP = 0x1000 };
+
 static void add(struct session *session, uint8_t event) {
     if (session->count == SESSION_ROOM) {
         fail(EXIT_SESSION, "the session has more than %d events", SESSION_ROOM);
@@ -30,14 +33,17 @@ static void add_written(struct session *session, const uint8_t *bytes, size_t co
     }
 }
 
-/* A whole write: the bytes between a Start and a Stop. */
-static void add_write(struct session *session, const uint8_t *bytes, size_t count) {
+/* A whole write of registers: the bytes between a Start and a Stop. */
+static void add_write_registers(struct session *session, const uint8_t *bytes, size_t count) {
     add_written(session, bytes, count);
     add(session, FM3130_STOP);
 }
 
-/* A repeated Start, a slave byte that reads, and so many bytes; the last is not acknowledged. */
-static void add_read(struct session *session, uint8_t slave, unsigned count) {
+/* Reads registers from an address on: a repeated Start, and the last byte is not acknowledged. */
+static void add_read_registers(struct session *session, uint8_t address, unsigned count) {
+    static const uint8_t slave = 0xD1;
+    const uint8_t pointer[] = {0xD0, address};
+    add_written(session, pointer, sizeof pointer);
     add_written(session, &slave, 1);
     for (unsigned i = 1; i <= count; i++) {
         add_clocks(session, 0xFF, 8);
@@ -46,18 +52,24 @@ static void add_read(struct session *session, uint8_t slave, unsigned count) {
     add(session, FM3130_STOP);
 }
 
-/* Reads registers from an address on. */
-static void add_read_registers(struct session *session, uint8_t address, unsigned count) {
-    const uint8_t pointer[] = {0xD0, address};
-    add_written(session, pointer, sizeof pointer);
-    add_read(session, 0xD1, count);
+/* The memory is the master's side of the archive: its events stand behind those so far. */
+static void add_filled(struct session *session, struct fm3130_filled filled) {
+    if (filled.number != FM3130_MASTER_OK) {
+        fail(EXIT_SESSION, "the master's side refuses a transaction (number %d)",
+             (int)filled.number);
+    }
+    session->count += filled.count;
+}
+
+static void add_write_memory(struct session *session, const uint8_t *bytes, size_t count) {
+    add_filled(session, fm3130_write_events(LAMP, bytes, count, session->events + session->count,
+                                            SESSION_ROOM - session->count));
 }
 
 /* Reads the lamp's byte. */
 static void add_read_lamp(struct session *session) {
-    static const uint8_t address[] = {0xA0, 0x10, 0x00};
-    add_written(session, address, sizeof address);
-    add_read(session, 0xA1, 1);
+    add_filled(session, fm3130_read_events(LAMP, 1, session->events + session->count,
+                                           SESSION_ROOM - session->count));
 }
 
 static void add_ticks(struct session *session, unsigned count) {
@@ -77,23 +89,25 @@ static void set_clock(struct session *session) {
     static const uint8_t open[] = {0xD0, 0x00, 0x02};
     static const uint8_t time[] = {0xD0, 0x02, 0x58, 0x59, 0x08, 0x07, 0x15, 0x11, 0x26};
     static const uint8_t close[] = {0xD0, 0x00, 0x00};
-    add_write(session, run, sizeof run);
-    add_write(session, open, sizeof open);
-    add_write(session, time, sizeof time);
-    add_write(session, close, sizeof close);
+    add_write_registers(session, run, sizeof run);
+    add_write_registers(session, open, sizeof open);
+    add_write_registers(session, time, sizeof time);
+    add_write_registers(session, close, sizeof close);
     add_ticks(session, 3);
     add_read_registers(session, 0x02, 3);
 }
 
 static void prove_lamp(struct session *session) {
-    static const uint8_t lamp[] = {0xA0, 0x10, 0x00, 0x01};
-    add_write(session, lamp, sizeof lamp);
+    static const uint8_t lit = 0x01;
+    add_write_memory(session, &lit, 1);
     add_read_lamp(session);
 }
 
+/* A write of none sets the address; without its Stop it stays open. */
 static void hang(struct session *session) {
-    static const uint8_t address[] = {0xA0, 0x10, 0x00};
-    add_written(session, address, sizeof address);
+    static const uint8_t none;
+    add_write_memory(session, &none, 0);
+    session->count--;
     add_clocks(session, 0x00, 5);
     add_ticks(session, 2);
 }
