@@ -1,6 +1,7 @@
 // SPDX-License-Identifier: Apache-2.0
 //! The lists of events that are timed. Each is one list, to be run on a fresh device.
 
+use compare::archive;
 use second::calendar::calendar_from_numbers;
 use second::generate::{self, List, RandomSource, Script};
 
@@ -53,16 +54,20 @@ fn traffic(name: &'static str, about: &'static str, events: Vec<u8>) -> Traffic 
     }
 }
 
-/// Blocks of random bytes written at random addresses, and read from others.
+/// Blocks of random bytes written at random addresses, and read from others, as the master's side of
+/// the archive writes the events.
 fn memory_traffic() -> Vec<u8> {
     let mut source = RandomSource::new(1);
-    let mut script = Script::new();
-    while script.events.len() < EVENTS {
-        let address = source.below(0x2000) as u16;
-        script.memory_write(address, &source.bytes(BLOCK));
-        script.memory_read(source.below(0x2000) as u16, BLOCK);
+    let mut events = Vec::new();
+    let mut block = [0; 39 + 9 * BLOCK];
+    while events.len() < EVENTS {
+        let address = source.below(0x2000) as u64;
+        let written = archive::write_events(address, &source.bytes(BLOCK), &mut block);
+        events.extend(&block[..written.count as usize]);
+        let read = archive::read_events(source.below(0x2000) as u64, BLOCK as u64, &mut block);
+        events.extend(&block[..read.count as usize]);
     }
-    script.events
+    events
 }
 
 /// Whole sets of registers written and read from random addresses on, a tick after each.

@@ -17,8 +17,16 @@ pub struct Mended {
     pub count: u64,
 }
 
+/// What the master's functions return: their own number, and how many bytes were written.
+#[repr(C)]
+#[derive(Clone, Copy, Debug, PartialEq, Eq)]
+pub struct Filled {
+    pub number: u64,
+    pub count: u64,
+}
+
 mod foreign {
-    use super::{Mended, Ran};
+    use super::{Filled, Mended, Ran};
 
     unsafe extern "C" {
         pub fn fm3130_run(
@@ -48,6 +56,33 @@ mod foreign {
             changes_length: u64,
         ) -> Mended;
         pub fn fm3130_catch_up(image: *mut u8, image_length: u64, ticks: u64) -> u64;
+        pub fn fm3130_write_events(
+            address: u64,
+            bytes: *const u8,
+            bytes_length: u64,
+            events: *mut u8,
+            events_length: u64,
+        ) -> Filled;
+        pub fn fm3130_read_events(
+            address: u64,
+            count: u64,
+            events: *mut u8,
+            events_length: u64,
+        ) -> Filled;
+        pub fn fm3130_write_told(
+            count: u64,
+            answers: *const u8,
+            answers_length: u64,
+            flags: *mut u8,
+            flags_length: u64,
+        ) -> Filled;
+        pub fn fm3130_read_told(
+            count: u64,
+            answers: *const u8,
+            answers_length: u64,
+            bytes: *mut u8,
+            bytes_length: u64,
+        ) -> Filled;
         pub fn fm3130_trim_check(error: i32, sign: u64, code: u64) -> u64;
         pub fn fm3130_trim_residue(error: i32, sign: u64, code: u64) -> i32;
         pub fn fm3130_trim_propose(error: i32) -> u64;
@@ -133,6 +168,54 @@ pub fn view_number(image: &[u8], memory: &[u8], selector: u64, start: u64, lengt
             selector,
             start,
             length,
+        )
+    }
+}
+
+/// The events of a master's write.
+pub fn write_events(address: u64, bytes: &[u8], events: &mut [u8]) -> Filled {
+    // SAFETY: two slices of Rust's are non-null and do not overlap, and their lengths are their own.
+    unsafe {
+        foreign::fm3130_write_events(
+            address,
+            bytes.as_ptr(),
+            bytes.len() as u64,
+            events.as_mut_ptr(),
+            events.len() as u64,
+        )
+    }
+}
+
+/// The events of a master's read.
+pub fn read_events(address: u64, count: u64, events: &mut [u8]) -> Filled {
+    // SAFETY: a slice of Rust's is non-null, and its length is its own.
+    unsafe { foreign::fm3130_read_events(address, count, events.as_mut_ptr(), events.len() as u64) }
+}
+
+/// What the answers to a master's write tell.
+pub fn write_told(count: u64, answers: &[u8], flags: &mut [u8]) -> Filled {
+    // SAFETY: two slices of Rust's are non-null and do not overlap, and their lengths are their own.
+    unsafe {
+        foreign::fm3130_write_told(
+            count,
+            answers.as_ptr(),
+            answers.len() as u64,
+            flags.as_mut_ptr(),
+            flags.len() as u64,
+        )
+    }
+}
+
+/// What the answers to a master's read tell.
+pub fn read_told(count: u64, answers: &[u8], bytes: &mut [u8]) -> Filled {
+    // SAFETY: two slices of Rust's are non-null and do not overlap, and their lengths are their own.
+    unsafe {
+        foreign::fm3130_read_told(
+            count,
+            answers.as_ptr(),
+            answers.len() as u64,
+            bytes.as_mut_ptr(),
+            bytes.len() as u64,
         )
     }
 }
