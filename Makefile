@@ -81,7 +81,7 @@ host: lib ## the rig's host program in C: build/host/fm3130-host
 	@mkdir -p build/host
 	@$(CC) $(C99) -D_POSIX_C_SOURCE=200809L host/*.c build/native/libfm3130.a -o $(HOST)
 
-ctest: lib host ## the archives through the C header (the official one too), the host, the guide's program
+ctest: lib host ## the archives through the C header (the official one too), the host, the guide's programs
 	@mkdir -p build/ctest
 	@$(CC) $(C99) tests/c/*.c build/native/libfm3130.a -o build/ctest/native
 	@$(CC_X86_64) $(C99) -static tests/c/*.c build/official/libfm3130.a -o build/ctest/official
