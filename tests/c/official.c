@@ -341,8 +341,8 @@ int main(int count, char **words) {
         differ("only %lu events in %s, must be at least 100000", events, words[1]);
     }
     unsigned long mended = check_mends();
-    printf("ctest: %s: K12, %u cases of refusals and views, %lu events as the second program, %lu "
-           "images put right, %lu trim settings as a plain search: equal\n",
+    printf("ctest: %s: K12, %u cases of refusals and views, the master's side, %lu events as the "
+           "second program, %lu images put right, %lu trim settings as a plain search: equal\n",
            words[0], cases, events, mended, check_trim());
     return 0;
 }
