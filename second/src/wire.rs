@@ -68,15 +68,21 @@ pub fn read_events(address: u16, count: usize, room: usize) -> Result<Vec<u8>, u
 
 // ----- what the answers tell -----
 
-/// "given the answer bytes, it says which data bytes were acknowledged": 1 for
-/// each that was, else 0. `room`: how many of these the caller's buffer can
-/// hold.
+/// "given the answer bytes, it says which data bytes were acknowledged, or which
+/// bytes were read (none if a slave or address byte went unacknowledged)": 1 for
+/// each data byte that was acknowledged, else 0. By ruling the words in brackets
+/// hold for a write too: after such a byte every flag is 0. `room`: how many
+/// flags the caller's buffer can hold.
 pub fn write_told(count: usize, answers: &[u8], room: usize) -> Result<Vec<u8>, u8> {
     refuse_if(count > MOST_BYTES, MORE_THAN_256)?;
     refuse_if(room < count, TOO_LITTLE_ROOM)?;
     refuse_if(answers.len() != length_of_write(count), ANSWERS_NOT_AS_MANY)?;
-    let bytes = between_start_and_stop(answers).chunks(CLOCKS);
-    let data = bytes.skip(BYTES_BEFORE_DATA);
+    let bytes = between_start_and_stop(answers);
+    let (addressing, data) = bytes.split_at(CLOCKS * BYTES_BEFORE_DATA);
+    if !addressing.chunks(CLOCKS).all(is_acknowledged) {
+        return Ok(vec![0; count]);
+    }
+    let data = data.chunks(CLOCKS);
     Ok(data
         .map(|clocks| u8::from(is_acknowledged(clocks)))
         .collect())

@@ -1,7 +1,8 @@
 // SPDX-License-Identifier: Apache-2.0
 //! 02, number 1: "given an address and bytes, it writes the events of one whole
 //! transaction; given the answer bytes, it says which data bytes were
-//! acknowledged, or which bytes were read".
+//! acknowledged, or which bytes were read (none if a slave or address byte went
+//! unacknowledged)".
 
 use second::generate::{self, any_state, RandomSource};
 use second::registers::is_protected;
@@ -154,36 +155,84 @@ fn refusals_of_answers_in_order() {
     }
 }
 
-/// Room is asked for all bytes, though none were read.
+/// Room is asked for all bytes, though none were read or acknowledged.
 #[test]
 fn room_is_asked_though_none_were_read() {
     let nobody = vec![5; length_of_read(3)];
     assert_eq!(read_told(3, &nobody, 2), Err(4));
     assert_eq!(read_told(3, &nobody, 3), Ok(vec![]));
+    let nobody = vec![5; length_of_write(3)];
+    assert_eq!(write_told(3, &nobody, 2), Err(4));
+    assert_eq!(write_told(3, &nobody, 3), Ok(vec![0; 3]));
 }
 
 // ----- what the answers tell -----
 
-/// Flips the line of one answer after the other; only the ninth clocks of data
-/// bytes matter, each to its own byte.
+/// Flips the line of one answer after the other, from all low and from all high;
+/// only ninth clocks matter: of a data byte to its own flag, of the slave byte and
+/// the address bytes to every flag.
 #[test]
 fn every_answer_of_a_write() {
     let count = 4;
     for base in [0x04, 0x05, 0x0B, 0xF0] {
+        let all_low = base & 1 == 0;
         for place in 0..length_of_write(count) {
             let mut answers = vec![base; length_of_write(count)];
-            let plain = write_told(count, &answers, count).expect("not refused");
-            assert_eq!(plain, vec![1 - (base & 1); count]);
+            let plain = write_told(count, &answers, count);
+            assert_eq!(plain, Ok(vec![u8::from(all_low); count]));
             answers[place] ^= 1;
             let told = write_told(count, &answers, count).expect("not refused");
-            for byte in 0..count {
-                let ninth = 1 + 9 * (3 + byte) + 8;
-                let flipped = u8::from(place == ninth);
-                assert_eq!(told[byte], plain[byte] ^ flipped);
+            let addressed = all_low && ![9, 18, 27].contains(&place);
+            for (byte, flag) in told.iter().enumerate() {
+                let ninth = 36 + 9 * byte;
+                assert_eq!(*flag, u8::from(addressed && place != ninth));
             }
             answers[place] ^= 0xFE;
             assert_eq!(write_told(count, &answers, count), Ok(told));
         }
+    }
+}
+
+/// "none if a slave or address byte went unacknowledged" holds for a write too:
+/// every way the slave byte and the two address bytes can be answered, with every
+/// way the data bytes can. With all three acknowledged each data byte has its own
+/// flag, also after an unacknowledged one.
+#[test]
+fn every_unacknowledged_byte_of_a_write() {
+    for count in 0..=5 {
+        for addressing in 0..8_u8 {
+            for data in 0..1_u8 << count {
+                for elsewhere in [4, 5] {
+                    let mut answers = vec![elsewhere; length_of_write(count)];
+                    for (number, place) in [9, 18, 27].into_iter().enumerate() {
+                        answers[place] = 4 | addressing >> number & 1;
+                    }
+                    let mut expected = vec![0; count];
+                    for (number, flag) in expected.iter_mut().enumerate() {
+                        let high = data >> number & 1;
+                        answers[36 + 9 * number] = 4 | high;
+                        if addressing == 0 {
+                            *flag = 1 - high;
+                        }
+                    }
+                    let told = write_told(count, &answers, count);
+                    assert_eq!(told, Ok(expected), "{addressing:03b} {data:05b}");
+                }
+            }
+        }
+    }
+}
+
+/// With the most bytes, all their ninth lines low: no flag after a high line at
+/// the slave byte or at either address byte, though as many flags as bytes.
+#[test]
+fn no_flag_of_the_longest_write() {
+    let mut answers = vec![4; length_of_write(256)];
+    assert_eq!(write_told(256, &answers, 256), Ok(vec![1; 256]));
+    for place in [9, 18, 27] {
+        answers[place] = 5;
+        assert_eq!(write_told(256, &answers, 256), Ok(vec![0; 256]));
+        answers[place] = 4;
     }
 }
 
