@@ -53,22 +53,11 @@ fn agree_on_read_events(address: u16, count: usize, room: usize) {
     );
 }
 
-/// The second program's flags; none is 1 if the slave byte or an address byte went unacknowledged (D75).
-/// The second program asks that of a read alone. Which reading is right is open, so on such answers this
-/// is no comparison of the two programs. The ninth clocks of the three bytes stand at 9, 18 and 27.
-fn flags_of(count: usize, answers: &[u8], room: usize) -> Result<Vec<u8>, u8> {
-    let flags = wire::write_told(count, answers, room)?;
-    match [9, 18, 27].iter().all(|ninth| answers[*ninth] % 2 == 0) {
-        true => Ok(flags),
-        false => Ok(vec![0; count]),
-    }
-}
-
 fn agree_on_write_told(count: usize, answers: &[u8], room: usize) {
     agree(
         &format!("flags of {count}, {} answers, room {room}", answers.len()),
         room,
-        flags_of(count, answers, room),
+        wire::write_told(count, answers, room),
         |flags| archive::write_told(count as u64, answers, flags),
     );
 }
