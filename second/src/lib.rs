@@ -18,11 +18,13 @@
 //! * [`day_numbers`]: the count by day numbers, which stands by itself.
 //! * [`trim`]: trim settings of another maker's clock.
 //! * [`wire`]: the master's side of one whole transaction.
+//! * [`capture`]: judging a capture file, and writing one.
 //! * [`host`]: small helpers that play the bus master.
 //! * [`table`]: the cases K1 to K12 of 01, run over the bus.
 //! * [`generate`]: lists of events to run on this and on another program.
 
 pub mod calendar;
+pub mod capture;
 pub mod catch_up;
 pub mod day_numbers;
 pub mod device;
