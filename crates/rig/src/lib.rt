@@ -8,7 +8,7 @@
 // view    a part of the caller's memory or registers, and its number
 use device::State;
 
-mod bytes;
+pub mod bytes;
 pub mod image;
 mod layout;
 pub mod run;

@@ -28,7 +28,7 @@ use device::numbers::WRONG_STATE;
 pub const MEMORY: usize = MEMORY_SIZE as usize;
 
 // Whether every event byte is one of the eight. All are tested, with no way out of the loop, so that many go at once.
-fn all_known(events: &[u8]) -> bool
+pub fn all_known(events: &[u8]) -> bool
     ensures { λ r. ⌜ r ≡ allKnown (now (events .entry)) ⌝ }
 {
     let mut known = true;

@@ -1,0 +1,1 @@
+-- SPDX-License-Identifier: Apache-2.0
