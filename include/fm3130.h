@@ -26,6 +26,10 @@
  *   fm3130_read_events   the events of a whole read from the memory, ready for fm3130_run
  *   fm3130_read_told     from the answers: the bytes that were read
  *
+ * One function judges a recording of a device that somebody else made, a file in memory:
+ *
+ *   fm3130_judge        names the first answer in it that the rules do not give
+ *
  * Three more functions, at the end, are about another maker's clock and need no device:
  *
  *   fm3130_trim_check    judges a trim setting that any program proposes
@@ -492,6 +496,67 @@ struct fm3130_filled fm3130_write_told(uint64_t count, const uint8_t *answers,
 struct fm3130_filled fm3130_read_told(uint64_t count, const uint8_t *answers,
                                       uint64_t answers_length, uint8_t *bytes,
                                       uint64_t bytes_length);
+
+/*
+ * Captures: a recorded run in one file, as the analysers send it. First a table of contents, four
+ * entries of 12 bytes, one a section: its kind, its offset from the file's begin and its length,
+ * each a number of four bytes, the low byte first. Then the bodies, in any order, gaps allowed:
+ * the image and the memory that the run began from, its events, and one answer for each.
+ * docs/CAPTURE.md has a drawing and an example byte by byte.
+ */
+
+/* Sizes in bytes: of the longest capture, of an entry and of the table. */
+#define FM3130_CAPTURE_MOST_BYTES 61440
+#define FM3130_CAPTURE_ENTRY_BYTES 12
+#define FM3130_CAPTURE_TABLE_BYTES 48
+
+/* The kinds of sections; each is there once. */
+enum fm3130_capture_kind {
+    FM3130_CAPTURE_IMAGE = 1,  /* the starting image, 64 bytes that fm3130_run takes */
+    FM3130_CAPTURE_MEMORY = 2, /* the starting memory, 8,192 bytes */
+    FM3130_CAPTURE_EVENTS = 3, /* enum fm3130_event, one byte each */
+    FM3130_CAPTURE_ANSWERS = 4 /* the recorded answers, as many as the events */
+};
+
+/* Verdicts on a capture. */
+enum fm3130_verdict {
+    FM3130_CAPTURE_AGREES = 0,  /* every recorded answer is the right one */
+    FM3130_CAPTURE_DIFFERS = 1, /* some recorded answer is not */
+    FM3130_CAPTURE_FAULTY = 2,  /* some entry of the table is faulty; no event was judged */
+    FM3130_CAPTURE_TOO_LONG = 3 /* more than 61,440 bytes; nothing was looked at */
+};
+
+/* What the judge returns. */
+struct fm3130_judgement {
+    uint64_t number; /* enum fm3130_verdict */
+    uint64_t place;  /* under 0 how many answers agree, under 1 the first wrong one, counted from
+                        0, under 2 the first faulty entry, 1 to 4, under 3 it is 0 */
+};
+
+/*
+ * Judges a capture: does its events, one by one, from its image and on a copy of its memory, and
+ * names the first recorded answer that fm3130_run does not give.
+ *
+ *   file     file_length bytes, any number of them and any values; read
+ *
+ * Returns
+ *   number 0, place n   all n answers agree (n is 0 where the lists are empty)
+ *   number 1, place n   answer n, counted from 0, is wrong, and every answer before it is right
+ *   number 2, place n   entry n of the table, 1 to 4, is faulty, and every entry before it is sound:
+ *                       the file ends inside the entry; its kind is none, or that of an earlier one;
+ *                       its body passes the end of the file (the sum is exact), or overlaps the
+ *                       table or the body of an earlier entry (an empty body overlaps nothing); or
+ *                       the body is one that fm3130_run refuses: an image by 2, a memory by 1,
+ *                       events by 3; or, of events and answers, it is the later one in the table
+ *                       and they are not equally many
+ *   number 3, place 0   file_length is above 61,440; nothing else is tested
+ *
+ * Uses some 9 KiB of stack, most of it for the copy of the memory.
+ *
+ * Proved: JudgeForCSettled, crates/capture/specs/Verdict.antt; that the answer named is the first:
+ * names-the-first, crates/capture/proofs/Laws.antt. Allocates nothing, keeps nothing, thread-safe.
+ */
+struct fm3130_judgement fm3130_judge(const uint8_t *file, uint64_t file_length);
 
 /*
  * Trim settings of another maker's clock (document 002), which knows nothing of a device.

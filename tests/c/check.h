@@ -38,6 +38,12 @@ unsigned long check_mends(void);
 void check_master(void);
 
 /*
+ * fm3130_judge: captures that agree or differ, every kind of fault at every entry, pairs of faults.
+ * Returns the number of captures judged.
+ */
+unsigned long check_captures(void);
+
+/*
  * Holds the trim functions to a plain search: every error in range with every setting, then what is
  * refused. Returns the number of settings judged.
  */

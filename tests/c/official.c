@@ -5,9 +5,9 @@
  *
  * K12's exact run, whole and in pieces; every refusal with untouched buffers; their order; the
  * fresh image; the viewer's number and the inline viewer; one event by itself (step.c); images put right
- * (mend.c); many ticks in one call (sleep.c); the master's side (master.c); then some 320,000 events against
- * the second program (frames.c), and every trim setting of every error against a plain search (trim.c). The
- * first difference ends it with status 1.
+ * (mend.c); many ticks in one call (sleep.c); the master's side (master.c); captures with and without faults
+ * (capture.c); then some 320,000 events against the second program (frames.c), and every trim setting of
+ * every error against a plain search (trim.c). The first difference ends it with status 1.
  */
 #include <stdarg.h>
 #include <stdio.h>
@@ -341,8 +341,9 @@ int main(int count, char **words) {
         differ("only %lu events in %s, must be at least 100000", events, words[1]);
     }
     unsigned long mended = check_mends();
+    unsigned long captures = check_captures();
     printf("ctest: %s: K12, %u cases of refusals and views, the master's side, %lu events as the "
-           "second program, %lu images put right, %lu trim settings as a plain search: equal\n",
-           words[0], cases, events, mended, check_trim());
+           "second program, %lu images put right, %lu captures, %lu trim settings as a plain search: equal\n",
+           words[0], cases, events, mended, captures, check_trim());
     return 0;
 }

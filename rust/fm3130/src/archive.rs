@@ -37,6 +37,13 @@ impl Filled {
     }
 }
 
+/// What `fm3130_judge` returns.
+#[repr(C)]
+struct Judgement {
+    number: u64,
+    place: u64,
+}
+
 extern "C" {
     fn fm3130_run(
         image: *mut u8,
@@ -105,6 +112,8 @@ extern "C" {
         bytes: *mut u8,
         bytes_length: u64,
     ) -> Filled;
+
+    fn fm3130_judge(file: *const u8, file_length: u64) -> Judgement;
 
     fn fm3130_trim_check(error: i32, sign: u64, code: u64) -> u64;
 
@@ -269,6 +278,13 @@ pub fn read_told(count: u64, answers: &[u8], bytes: &mut [u8]) -> Result<usize, 
         )
     };
     filled.outcome()
+}
+
+/// Judges a capture; returns the verdict's number and place.
+pub fn judge(file: &[u8]) -> (u64, u64) {
+    // SAFETY: pointer and length are those of one live slice, and the archive only reads.
+    let judgement = unsafe { fm3130_judge(file.as_ptr(), file.len() as u64) };
+    (judgement.number, judgement.place)
 }
 
 /// A sign as the archive takes it.

@@ -17,6 +17,7 @@
 //! * [`run`], [`step`], [`catch_up`], [`fresh`], [`view`] and [`mend`] are the archive's entries on slices of any
 //!   length.
 //! * [`Refusal`] is why an entry did nothing, with 01's number.
+//! * [`capture`] writes and judges captures: a recorded run in one file.
 //! * [`trim`] proposes and checks trim settings of another maker's clock; it needs no device.
 //!
 //! No function of this crate panics, whatever it is given.
@@ -47,6 +48,7 @@ mod answer;
 #[allow(unsafe_code)]
 mod archive;
 mod calendar;
+pub mod capture;
 mod change;
 mod device;
 mod entries;
