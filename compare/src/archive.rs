@@ -25,8 +25,16 @@ pub struct Filled {
     pub count: u64,
 }
 
+/// What the judge of captures returns: the verdict's number and place.
+#[repr(C)]
+#[derive(Clone, Copy, Debug, PartialEq, Eq)]
+pub struct Judgement {
+    pub number: u64,
+    pub place: u64,
+}
+
 mod foreign {
-    use super::{Filled, Mended, Ran};
+    use super::{Filled, Judgement, Mended, Ran};
 
     unsafe extern "C" {
         pub fn fm3130_run(
@@ -83,6 +91,7 @@ mod foreign {
             bytes: *mut u8,
             bytes_length: u64,
         ) -> Filled;
+        pub fn fm3130_judge(file: *const u8, file_length: u64) -> Judgement;
         pub fn fm3130_trim_check(error: i32, sign: u64, code: u64) -> u64;
         pub fn fm3130_trim_residue(error: i32, sign: u64, code: u64) -> i32;
         pub fn fm3130_trim_propose(error: i32) -> u64;
@@ -218,6 +227,12 @@ pub fn read_told(count: u64, answers: &[u8], bytes: &mut [u8]) -> Filled {
             bytes.len() as u64,
         )
     }
+}
+
+/// The verdict on a capture.
+pub fn judge(file: &[u8]) -> Judgement {
+    // SAFETY: a slice of Rust's is non-null and only read, and its length is its own.
+    unsafe { foreign::fm3130_judge(file.as_ptr(), file.len() as u64) }
 }
 
 /// The verdict on a trim setting, by its number.

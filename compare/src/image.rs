@@ -1,8 +1,9 @@
 // SPDX-License-Identifier: Apache-2.0
-//! The second program's device as the 64 bytes of docs/IMAGE.md, and which images that page accepts.
+//! The second program's device as the 64 bytes of docs/IMAGE.md and back, and which images that page accepts.
 
 use second::device::{LogicalDevice, Phase, Transfer};
-use second::{Device, Power};
+use second::state::State;
+use second::{Calendar, Device, Power};
 
 pub const IMAGE_BYTES: usize = 64;
 
@@ -103,4 +104,71 @@ pub fn is_accepted(image: &[u8]) -> bool {
         && (image[25] == 0 || image[26] == 0)
         && image[30..61].iter().all(|byte| *byte == 0)
         && image[61..] == [0x31, 0x30, 0x01]
+}
+
+/// The phase of a number.
+fn phase_of(number: u8) -> Option<Phase> {
+    let phase = match number {
+        0 => Phase::BetweenTransfers,
+        1 => Phase::SlaveByte,
+        2 => Phase::MemoryAddressHighByte,
+        3 => Phase::MemoryAddressLowByte,
+        4 => Phase::CompanionAddressByte,
+        5 => Phase::WriteData(LogicalDevice::Memory),
+        6 => Phase::WriteData(LogicalDevice::Companion),
+        7 => Phase::ReadData(LogicalDevice::Memory),
+        8 => Phase::ReadData(LogicalDevice::Companion),
+        _ => return None,
+    };
+    Some(phase)
+}
+
+/// The transfer of bytes 26 to 29.
+fn transfer_of(image: &[u8]) -> Option<Transfer> {
+    let (phase, clocks, byte) = (phase_of(image[26])?, image[27], image[28]);
+    let mut transfer = Transfer {
+        phase,
+        clocks,
+        received_bits: [false; 8],
+        memory_address_high_byte: image[29],
+        byte_sent: 0,
+    };
+    match phase {
+        Phase::BetweenTransfers => {}
+        Phase::ReadData(_) => transfer.byte_sent = byte,
+        _ => {
+            for place in 0..clocks {
+                let bit = byte >> (clocks - 1 - place) & 1;
+                transfer.received_bits[usize::from(place)] = bit == 1;
+            }
+        }
+    }
+    Some(transfer)
+}
+
+/// The second program's state that an image holds, or none where docs/IMAGE.md does not accept it.
+pub fn state_of(image: &[u8]) -> Option<State> {
+    if !is_accepted(image) {
+        return None;
+    }
+    Some(State {
+        registers: image[..15].try_into().ok()?,
+        core: Calendar {
+            seconds: image[15],
+            minutes: image[16],
+            hours: image[17],
+            day: image[18],
+            date: image[19],
+            month: image[20],
+            year: image[21],
+        },
+        power: match image[25] {
+            0 => Power::On,
+            1 => Power::Backup,
+            _ => Power::Gone,
+        },
+        memory_address: u16::from_be_bytes([image[23], image[24]]),
+        companion_address: image[22],
+        transfer: transfer_of(image)?,
+    })
 }

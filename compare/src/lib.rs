@@ -6,11 +6,13 @@
 //! * [`image`]: the second program's device as the 64 bytes of docs/IMAGE.md.
 //! * [`lists`]: a list of events on both, whole and in pieces.
 //! * [`standin`]: what the proved stand-in is run on, and what it has to print.
+//! * [`captures`]: files to judge, the second program's verdict on each, and what the proved judge is run on.
 //! * [`almanac`]: what the proved calendar has to print.
 //! * [`edits`]: what the prover said of each edit that it must refuse.
 
 pub mod almanac;
 pub mod archive;
+pub mod captures;
 pub mod edits;
 pub mod image;
 pub mod lists;

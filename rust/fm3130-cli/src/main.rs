@@ -7,6 +7,7 @@
 //! * `transcript`, `waveform`, `drawing`: what happened as text, VCD and SVG.
 //! * `listing`: event bytes back to a script. `words`: a device in words.
 //! * `mending`: what was put right in an image, in words.
+//! * `place`: where an event stands in a list. `recording`: events from a waveform of the two wires.
 //! * `trimming`: what trim settings leave of an error, as text.
 //! * `files`, `output`, `progress`, `arguments`, `failure`: the world outside.
 
@@ -21,7 +22,9 @@ mod files;
 mod listing;
 mod mending;
 mod output;
+mod place;
 mod progress;
+mod recording;
 mod script;
 mod source;
 mod transcript;

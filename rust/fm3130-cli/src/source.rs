@@ -95,6 +95,33 @@ impl Source for PlanSource {
     }
 }
 
+/// The events of a list.
+pub struct ListSource<'list> {
+    events: &'list [u8],
+    given: usize,
+}
+
+impl<'list> ListSource<'list> {
+    /// All events of a list.
+    pub fn new(events: &'list [u8]) -> ListSource<'list> {
+        ListSource { events, given: 0 }
+    }
+}
+
+impl Source for ListSource<'_> {
+    fn total(&self) -> u64 {
+        self.events.len() as u64
+    }
+
+    fn fill(&mut self, chunk: &mut Vec<u8>) -> Outcome {
+        let rest = &self.events[self.given..];
+        chunk.clear();
+        chunk.extend_from_slice(&rest[..rest.len().min(CHUNK)]);
+        self.given += chunk.len();
+        Ok(())
+    }
+}
+
 /// The events of a file, one byte an event.
 pub struct FileSource {
     path: PathBuf,

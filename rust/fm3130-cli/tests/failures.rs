@@ -33,7 +33,7 @@ fn fails(folder: &Folder, words: &[&str], code: i32, said: &str) -> Ran {
 #[test]
 fn wrong_command_lines() {
     let folder = folder_with_files("wrong-lines");
-    let cases: [(&[&str], &str); 21] = [
+    let cases: [(&[&str], &str); 26] = [
         (&[], "no command"),
         (&["jump"], "unknown command jump"),
         (&["run"], "run needs a SCRIPT"),
@@ -48,6 +48,14 @@ fn wrong_command_lines() {
         (&["view", "--registers"], "--registers needs --image FILE"),
         (&["view", "--memory", "memory", "ten"], "ten is no number"),
         (&["fresh"], "fresh needs"),
+        (&["judge"], "judge needs a FILE"),
+        (&["judge", "good", "more"], "one word too many: more"),
+        (&["judge", "good", "--from-vcd", "good"], "not both"),
+        (
+            &["judge", "good", "--scl", "D0"],
+            "--scl goes with --from-vcd",
+        ),
+        (&["judge", "good.bus", "--svg", "good.bus"], "name one file"),
         (&["trim"], "trim needs an ERROR"),
         (&["trim", "-six"], "-six is no error"),
         (&["trim", "1.5"], "1.5 is no error"),

@@ -17,5 +17,5 @@ pub use grouping::{Grouping, Listener};
 pub use happening::{BusByte, BusClock, Direction, Happening, PowerChange};
 pub use meaning::named_by;
 pub use moment::{Moment, TickRun};
-pub use play::{play, Observer, Outputs};
+pub use play::{play, Observer, Outputs, Recorded};
 pub use ticks::TickReport;

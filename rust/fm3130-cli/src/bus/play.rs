@@ -28,8 +28,26 @@ pub struct Outputs<'run> {
     pub observers: Vec<&'run mut dyn Observer>,
     /// Whether an observer prints words.
     pub prints: bool,
-    /// The file for the answer bytes; without one, long runs of ticks are done at once.
+    /// The file for the answer bytes.
     pub answers: Option<&'run mut Replacement>,
+    /// What is kept of all events.
+    pub recording: Option<&'run mut Recorded>,
+}
+
+impl Outputs<'_> {
+    /// Whether every answer is wanted; if not, long runs of ticks are done at once.
+    fn want_answers(&self) -> bool {
+        self.answers.is_some() || self.recording.is_some()
+    }
+}
+
+/// Events and their answers.
+#[derive(Default)]
+pub struct Recorded {
+    /// The events.
+    pub events: Vec<u8>,
+    /// The answers, one for each.
+    pub answers: Vec<u8>,
 }
 
 /// Does all events of a source.
@@ -38,9 +56,10 @@ pub fn play(device: &mut Device, source: &mut dyn Source, outputs: &mut Outputs)
     let mut chunk = Vec::with_capacity(CHUNK);
     let mut answers = vec![0; CHUNK];
     loop {
-        let ticks = match outputs.answers {
-            Some(_) => 0,
-            None => source.take_ticks(),
+        let ticks = if outputs.want_answers() {
+            0
+        } else {
+            source.take_ticks()
         };
         if ticks > 0 {
             sleep_through(device, ticks, outputs)?;
@@ -57,6 +76,10 @@ pub fn play(device: &mut Device, source: &mut dyn Source, outputs: &mut Outputs)
         play_chunk(device, &chunk, &mut answers, outputs)?;
         if let Some(file) = &mut outputs.answers {
             file.write(&answers[..chunk.len()])?;
+        }
+        if let Some(recorded) = &mut outputs.recording {
+            recorded.events.extend_from_slice(&chunk);
+            recorded.answers.extend_from_slice(&answers[..chunk.len()]);
         }
         progress.advance(chunk.len() as u64);
     }

@@ -14,6 +14,7 @@ const PAGES: [(&str, &str); 8] = [
     ("events", include_str!("../help/events.txt")),
     ("view", include_str!("../help/view.txt")),
     ("fresh", include_str!("../help/fresh.txt")),
+    ("judge", include_str!("../help/judge.txt")),
     ("mend", include_str!("../help/mend.txt")),
     ("trim", include_str!("../help/trim.txt")),
     ("script", include_str!("../help/script.txt")),

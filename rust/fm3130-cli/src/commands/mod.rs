@@ -4,6 +4,7 @@
 mod events;
 mod fresh;
 mod help;
+mod judge;
 mod mend;
 mod run;
 mod trim;
@@ -30,6 +31,7 @@ pub fn dispatch(mut words: Vec<OsString>) -> Outcome {
         Some("events") => events::command(words),
         Some("view") => view::command(words),
         Some("fresh") => fresh::command(words),
+        Some("judge") => judge::command(words),
         Some("mend") => mend::command(words),
         Some("trim") => trim::command(words),
         Some("help" | "--help" | "-h") => help::command(words),

@@ -4,10 +4,11 @@
 use std::ffi::OsString;
 use std::path::{Path, PathBuf};
 
+use fm3130::capture::{self, Capture};
 use fm3130::{Device, Phase};
 
 use crate::arguments::{wrong, Arguments, Options};
-use crate::bus::{self, Grouping, Listener, Observer, Outputs};
+use crate::bus::{self, Grouping, Listener, Observer, Outputs, Recorded};
 use crate::drawing::Drawing;
 use crate::failure::{Failure, Outcome};
 use crate::files::{self, Loaded, NamedFile, Replacement};
@@ -25,19 +26,21 @@ const OPTIONS: Options = Options {
         "--answers",
         "--vcd",
         "--svg",
+        "--capture",
         "--events",
     ],
     alone: &["--quiet"],
 };
 
 /// Options that name files, with the script first.
-const FILES: [&str; 6] = [
+const FILES: [&str; 7] = [
     "--events",
     "--image",
     "--memory",
     "--answers",
     "--vcd",
     "--svg",
+    "--capture",
 ];
 
 /// Plays a script or an event file.
@@ -50,6 +53,8 @@ pub fn command(words: Vec<OsString>) -> Outcome {
     let is_quiet = arguments.has("--quiet");
     let mut output = Output::new();
     let mut device = load_device(&arguments, is_quiet, &mut output)?;
+    test_length(&arguments, &*source)?;
+    let begin = device.clone();
     let mut targets = Targets::open(&arguments)?;
     if !is_quiet {
         say_where_it_begins(&device, &mut output)?;
@@ -63,7 +68,17 @@ pub fn command(words: Vec<OsString>) -> Outcome {
         }
     }
     output.finish()?;
-    targets.commit(&device)
+    targets.commit(&begin, &device)
+}
+
+/// Refuses a run that is too long for a capture, before anything is done.
+fn test_length(arguments: &Arguments, source: &dyn Source) -> Outcome {
+    let (total, most) = (source.total(), capture::MOST_EVENTS);
+    if arguments.path("--capture").is_some() && total > most as u64 {
+        let words = format!("{total} events are too many for --capture, which holds {most}");
+        return Err(Failure::Script(words));
+    }
+    Ok(())
 }
 
 /// Refuses a command line in which two words name one file.
@@ -173,6 +188,7 @@ fn play_to(
         observers,
         prints,
         answers: targets.answers.as_mut(),
+        recording: targets.capture.as_ref().map(|_| &mut targets.recorded),
     };
     bus::play(device, source, &mut outputs)
 }
@@ -184,6 +200,9 @@ struct Targets {
     answers: Option<Replacement>,
     vcd: Option<Replacement>,
     svg: Option<Replacement>,
+    capture: Option<Replacement>,
+    /// What goes into the capture.
+    recorded: Recorded,
 }
 
 impl Targets {
@@ -198,18 +217,38 @@ impl Targets {
             answers: open("--answers")?,
             vcd: open("--vcd")?,
             svg: open("--svg")?,
+            capture: open("--capture")?,
+            recorded: Recorded::default(),
         })
     }
 
-    /// Writes the device, and puts every file in its place.
-    fn commit(mut self, device: &Device) -> Outcome {
+    /// Writes the device and the capture of a run that began with another, and puts every file in
+    /// its place.
+    fn commit(mut self, begin: &Device, device: &Device) -> Outcome {
         if let Some(file) = &mut self.image {
             file.write(device.image())?;
         }
         if let Some(file) = &mut self.memory {
             file.write(device.memory())?;
         }
-        let all = [self.image, self.memory, self.answers, self.vcd, self.svg];
+        if let Some(file) = &mut self.capture {
+            let capture = Capture {
+                image: begin.image(),
+                memory: begin.memory(),
+                events: &self.recorded.events,
+                answers: &self.recorded.answers,
+            };
+            // The number of events was tested before the run.
+            file.write(&capture.to_file().unwrap_or_default())?;
+        }
+        let all = [
+            self.image,
+            self.memory,
+            self.answers,
+            self.vcd,
+            self.svg,
+            self.capture,
+        ];
         files::commit_all(all.into_iter().flatten().collect())
     }
 }

@@ -30,6 +30,10 @@ pub struct Drawing<'run> {
     cells: usize,
     /// What happened inside the byte under way; it is drawn with the byte.
     marks: Vec<Mark>,
+    /// The clocks drawn.
+    clocks: usize,
+    /// A clock to point at; the mark counts all clocks of the drawing before it.
+    pointed: Option<Mark>,
 }
 
 impl<'run> Drawing<'run> {
@@ -42,7 +46,28 @@ impl<'run> Drawing<'run> {
             rows: Vec::new(),
             cells: 0,
             marks: Vec::new(),
+            clocks: 0,
+            pointed: None,
         }
+    }
+
+    /// Points at a clock, counted from 0, by an arrow with a name; the ACS pin is the one before it.
+    pub fn point_at(&mut self, clock: usize, name: &str, pin: Pin) {
+        self.pointed = Some(Mark {
+            clocks: clock,
+            name: name.to_string(),
+            pin,
+        });
+    }
+
+    /// Makes a mark of what is pointed at, if it is in a byte of so many clocks.
+    fn mark_pointed(&mut self, clocks: usize) {
+        let is_inside = |mark: &mut Mark| mark.clocks < self.clocks + clocks;
+        if let Some(mut mark) = self.pointed.take_if(is_inside) {
+            mark.clocks = mark.clocks.saturating_sub(self.clocks);
+            self.marks.push(mark);
+        }
+        self.clocks += clocks;
     }
 
     /// Makes room for a cell; false if the drawing is full.
@@ -74,6 +99,7 @@ impl<'run> Drawing<'run> {
 
     /// A byte leaves room for a Stop, which stays with it.
     fn byte(&mut self, byte: &BusByte) {
+        self.mark_pointed(byte.clocks.len());
         let marks = std::mem::take(&mut self.marks);
         if self.make_room(row::width_of(byte) + row::EDGE) {
             self.row.byte(byte, &marks);
