@@ -10,13 +10,19 @@ use compare::lists::Case;
 use second::capture::{Verdict, KIND_ANSWERS, KIND_EVENTS, MOST_FILE_BYTES, TABLE_BYTES};
 use second::generate::{handed_in, random};
 
-/// A short recording with a transfer under way at its begin.
+/// A recording of 40 events, in the middle of a longer run: a transfer may be under way at its begin.
 fn short_parts() -> [Vec<u8>; 4] {
-    let list = handed_in()
+    let list = random(11, 20_000)
         .into_iter()
-        .find(|list| (10..60).contains(&list.events.len()))
-        .expect("a short list");
-    recorded(&Case::handed_in(&list))
+        .find(|list| list.events.len() >= 100)
+        .expect("a list of 100 events");
+    let mut device = list.device();
+    device.run(&list.events[..60]);
+    recorded(&Case {
+        name: list.name,
+        device,
+        events: list.events[60..100].to_vec(),
+    })
 }
 
 /// Changes to a file that may make an entry faulty: its number, and what to do with the file.

@@ -282,3 +282,35 @@ fn waveforms_that_cannot_be_read_say_why() {
     let said = folder.succeed(&["judge", "--from-vcd", "w.vcd", "--scl", "D0", "--sda", "D1"]);
     assert_eq!(said, "all agree: 0 answers\n");
 }
+
+/// The bytes of docs/CAPTURE.md's example are those of the file that its command writes.
+#[test]
+fn the_example_in_the_documents_is_the_file() {
+    let folder = Folder::new("judge-example");
+    let ran = folder.run_with(
+        &["run", "-", "--quiet", "--capture", "k12.capture"],
+        "[ A0 ]",
+    );
+    assert_eq!(ran.code, 0, "{}", ran.errors);
+    let file = folder.read("k12.capture");
+    assert_eq!(file.len(), 8326);
+    let page = include_str!("../../../docs/CAPTURE.md");
+    let mut shown = 0;
+    for line in page.lines() {
+        let Some((place, rest)) = line.split_once("  ") else {
+            continue;
+        };
+        let is_place = place.len() == 4 && place.bytes().all(|digit| digit.is_ascii_hexdigit());
+        if !is_place {
+            continue;
+        }
+        let from = usize::from_str_radix(place, 16).unwrap();
+        let bytes: Vec<u8> = rest
+            .split_whitespace()
+            .map_while(|word| (word.len() == 2).then(|| u8::from_str_radix(word, 16).ok())?)
+            .collect();
+        assert_eq!(file[from..from + bytes.len()], bytes[..], "{line}");
+        shown += bytes.len();
+    }
+    assert!(shown > 90, "{shown}");
+}
