@@ -1,12 +1,11 @@
 -- SPDX-License-Identifier: Apache-2.0
 -- What a comparison says of two lists: "the first answer that our rules do not give", and "that all agree".
 -- Assumes nothing.
-use Prim.Native.Nat.{ℕ, zero, suc, _+_, _≤_, _<_}
-use mathlib.Core.Path.{_≡_, refl, sym, ap, _∙_}
-use mathlib.Core.Bool.{Bool, true, false}
+use Prim.Native.Nat.{ℕ, zero, suc, _+_, _<_}
+use mathlib.Core.Path.{_≡_, refl, sym, _∙_}
+use mathlib.Core.Bool.{true, false}
 use mathlib.Core.List.{List, [], _∷_}
 use native.Mathlib.Omega.{arith}
-use native.Mathlib.Numerals.{add-one}
 use native.Mathlib.Nat.{le-of-suc-le-suc, not-suc-le-zero}
 use lib.Dec.{eqb}
 use lib.ListN.{length, getD}
@@ -14,7 +13,6 @@ use borrow.Author.Tests.{eqb-true, eqb-false}
 use Rattle.wire.proofs.Tests.{by-test}
 use Rattle.capture.specs.Verdict.{compared}
 use Rattle.capture.specs.Laws.{First}
-use Rattle.capture.specs.declared.Verdict.{Verdict}
 use Rattle.capture.specs.declared.Verdict.the-variants.{Agree, Differs, Faulty}
 
 record FirstFrom (k : ℕ) (rs bs : List ℕ) (n a r : ℕ) : Type 0 where

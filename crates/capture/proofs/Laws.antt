@@ -1,9 +1,9 @@
 -- SPDX-License-Identifier: Apache-2.0
 -- The verdict's cases come each from one way through its definition; what a comparison says is in Firsts.
 -- Assumes nothing.
-use Prim.Native.Nat.{ℕ, _+_, _≤_, _<_}
-use mathlib.Core.Path.{_≡_, refl, sym, ap, _∙_}
-use mathlib.Core.Bool.{Bool, true, false}
+use Prim.Native.Nat.{ℕ, _<_}
+use mathlib.Core.Path.{_≡_, refl, sym, _∙_}
+use mathlib.Core.Bool.{true, false}
 use mathlib.Core.List.{List}
 use native.Mathlib.Omega.{arith}
 use lib.Dec.{leb, eqb}
@@ -18,7 +18,6 @@ use Rattle.contents.proofs.Sound.{sound-of}
 use Rattle.contents.proofs.Finding.{even, inside}
 use Rattle.capture.specs.Verdict.{limit, rightAnswers, compared, verdictOf}
 use Rattle.capture.specs.Laws.{First, NamesTheFirst, SaysAllAgree, FirstFault, NamesTheFault}
-use Rattle.capture.specs.declared.Verdict.{Verdict}
 use Rattle.capture.specs.declared.Verdict.the-variants.{Agree, Differs, Faulty, TooLong}
 use Rattle.capture.proofs.Replays.{part-length}
 use Rattle.capture.proofs.Firsts.{first-wrong, all-agree, compared-faulty}

@@ -1,9 +1,10 @@
 -- SPDX-License-Identifier: Apache-2.0
 -- The verdict on a capture (02, 10): too long; the first faulty entry; the first answer that the rules do not give; or
 -- all agree. `JudgeSettled` is the whole outcome: the file is only read.
---   figuresOf                         number and values of each verdict
---   rightAnswers, compared, verdictOf the answers by the rules; beside the recorded ones; the verdict, of the file's bytes
---   JudgeSettled, JudgeForCSettled    the contracts of `judge` and of `fm3130_judge`
+--   figuresOf                        number and values of each verdict
+--   rightAnswers, compared           the answers by the rules, and beside the recorded ones
+--   verdictOf                        the verdict, of the file's bytes
+--   JudgeSettled, JudgeForCSettled   the contracts of `judge` and of `fm3130_judge`
 -- Assumes nothing.
 use Prim.Native.Nat.{ℕ, _+_}
 use mathlib.Core.Path.{_≡_}
@@ -38,7 +39,7 @@ abbrev pub rightAnswers : List ℕ → List ℕ
 rightAnswers f =
     runOf (candidate (sectionOf f imageKind)) (sectionOf f memoryKind) (sectionOf f eventsKind) .answers
 
--- "The first answer that our rules do not give": right answers and recorded ones, side by side, counted from a place on.
+-- "The first answer that our rules do not give": right answers and recorded ones side by side, counted from a place on.
 unfoldable pub compared : ℕ → List ℕ → List ℕ → Verdict
 compared n [] bs = Agree n
 compared n (r ∷ rs) [] = Agree n

@@ -2,7 +2,7 @@
 -- In a sound file each kind is found, whichever entry has it, and there are as many events as answers.
 -- Assumes nothing.
 use Prim.Native.Nat.{ℕ, _+_, _-_, _≤_, _<_}
-use mathlib.Core.Path.{_≡_, refl, sym, ap, _∙_}
+use mathlib.Core.Path.{_≡_, sym, ap, _∙_}
 use mathlib.Core.Bool.{true, false}
 use mathlib.Core.List.{List}
 use native.Mathlib.Omega.{arith}
@@ -55,7 +55,8 @@ module _ (f : List ℕ) (s : Sound f) where
       (λ c. found-at f k 2 (omega arith) (eqb-true _ _ c) (s .third) (index-third f k a b c))
       (λ c. found-at f k 3 (omega arith) (last (eqb-false _ _ a) (eqb-false _ _ b) (eqb-false _ _ c)) (s .fourth)
       (index-fourth f k a b c)))) where
-        last : (entryAt f 0 .kind ≡ k → ⊥) → (entryAt f 1 .kind ≡ k → ⊥) → (entryAt f 2 .kind ≡ k → ⊥) → entryAt f 3 .kind ≡ k
+        last : (entryAt f 0 .kind ≡ k → ⊥) → (entryAt f 1 .kind ≡ k → ⊥) → (entryAt f 2 .kind ≡ k → ⊥)
+            → entryAt f 3 .kind ≡ k
         last p q r =
             let t1 = s .first .stands in
             let t2 = s .second .stands in

@@ -65,7 +65,8 @@ apart-of e d h =
           eqb-true (e .size) (d .size) (not-false _ z);
     }
 
-below : (f : List ℕ) (e : Entry) (n : ℕ) → clashesBelow f e n ≡ false → (i : ℕ) → i < n → clashes e (entryAt f i) ≡ false
+below : (f : List ℕ) (e : Entry) (n : ℕ) → clashesBelow f e n ≡ false
+    → (i : ℕ) → i < n → clashes e (entryAt f i) ≡ false
 unfolding clashesBelow
 below f e zero h i l = absurd (not-suc-le-zero l)
 below f e (suc n) h i l =

@@ -1,6 +1,6 @@
 -- SPDX-License-Identifier: Apache-2.0
--- The first faulty entry of a capture (02, 10: "A malformed file is named by its first faulty entry"), and the section of
--- each kind.
+-- The first faulty entry of a capture (02, 10: "A malformed file is named by its first faulty entry"), and the section
+-- of each kind.
 --   firstFaulty          1 to 4, or 0 where all four are sound
 --   entryOf, sectionOf   the entry and the body of a kind
 -- Assumes nothing.

@@ -1,11 +1,9 @@
 -- SPDX-License-Identifier: Apache-2.0
 -- The byte inside the file, and past its end.
 -- Assumes nothing.
-use mathlib.Core.Path.{_≡_, refl, sym, ap, _∙_}
 use denote.Ref.{now}
 use lib.ListN.{length, List·getD-eq-default}
 use borrow.Author.Needs.{needs}
-use native.Mathlib.Omega.{arith}
 use borrow.Author.Tests.{lt-ltb, le-ltb}
 use Rattle.reading.proofs.taken_at.Statement.{statement}
 use Rattle.reading.proofs.taken_at.Tie as tie
@@ -20,7 +18,12 @@ returns : tie.Need-returns
 returns c = let a = c .before .before .args in rw (lt-ltb (a .place) (length (now (a .file))) (c .before .if1 .taken))
 
 returns-2 : tie.Need-returns-2
-returns-2 c = let a = c .before .args in rw (le-ltb (a .place) (length (now (a .file))) (c .if1 .left), List·getD-eq-default (now (a .file)) 0 (c .if1 .left))
+returns-2 c =
+    let a = c .before .args in
+    rw (
+      le-ltb (a .place) (length (now (a .file))) (c .if1 .left),
+      List·getD-eq-default (now (a .file)) 0 (c .if1 .left),
+    )
 
 pub taken-at-spec : {M : Type 1} → statement M
 taken-at-spec = tie.close (tie.spec shared-slice-read-t6 add-t7 returns returns-2)

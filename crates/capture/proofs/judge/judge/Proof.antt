@@ -87,7 +87,8 @@ cast-replay-3 c = search needs
 
 replay-requires : tie.Need-replay-requires
 replay-requires c κs =
-    let s = c .before .before .before .before .before .before .before .before .before .before .before in
+    let k = c .before .before .before .before .before .before .before in
+    let s = k .before .before .before .before in
     let d = s .before .before .before .before in
     let z = no-fault d in
     let ev = c .before .before .before .before .before .entry-of .ensures in
@@ -95,7 +96,7 @@ replay-requires c κs =
     let g = settled-decode _ _ (s .before .before .decode .ensures) ∙ s .state .given .1 in (
       (
         image-decode _ _ g .0,
-        ap length (c .before .before .before .before .before .before .before .copy .ensures ∙ c .before .before .before .before .before .before .before .before .before .section2 .ensures) ∙ memory-length (file d) z,
+        ap length (k .copy .ensures ∙ k .before .before .section2 .ensures) ∙ memory-length (file d) z,
       ),
       (
         (inside (file d) z eventsKind (omega arith) (omega arith) _ ev, answers-inside (file d) z _ _ ev an),
@@ -105,16 +106,17 @@ replay-requires c κs =
 
 returns-4 : tie.Need-returns-4
 returns-4 c =
-    let s = c .before .before .before .before .before .before .before .before .before .before .before .before .before in
+    let k = c .before .before .before .before .before .before .before .before .before in
+    let s = k .before .before .before .before in
     let d = s .before .before .before .before in
     let z = no-fault d in
     let ev = c .before .before .before .before .before .before .before .entry-of .ensures in
     let an = c .before .before .before .before .before .before .entry-of2 .ensures in
     let g = settled-decode _ _ (s .before .before .decode .ensures) ∙ s .state .given .1 in
-    let m = c .before .before .before .before .before .before .before .before .before .copy .ensures ∙ c .before .before .before .before .before .before .before .before .before .before .before .section2 .ensures in
+    let i = s .before .before .before .section .ensures in
+    let m = k .copy .ensures ∙ k .before .before .section2 .ensures in
     ap figuresOf
-    (c .before .replay .ensures
-    ∙ replay-done (file d) z _ _ ev an (d .before .before .if1 .left) _ _ (s .before .before .before .section .ensures) m _ g)
+    (c .before .replay .ensures ∙ replay-done (file d) z _ _ ev an (d .before .before .if1 .left) _ _ i m _ g)
 
 pub judge-spec : {M : Type 1} → statement M
 judge-spec =

@@ -49,7 +49,12 @@ returns-4 c =
 
 returns-5 : tie.Need-returns-5
 unfolding isAccepted
-returns-5 c = rw (ne-eqb _ _ (c .before .before .if1 .left), ne-eqb _ _ (c .before .if2 .left), ne-eqb _ _ (c .if3 .left))
+returns-5 c =
+    rw (
+      ne-eqb _ _ (c .before .before .if1 .left),
+      ne-eqb _ _ (c .before .if2 .left),
+      ne-eqb _ _ (c .if3 .left),
+    )
 
 pub accepts-spec : {M : Type 1} → statement M
 accepts-spec =

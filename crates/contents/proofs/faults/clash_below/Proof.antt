@@ -37,7 +37,8 @@ loop-again : tie.Need-loop-again Inv-loop μ-loop
 loop-again c =
     let l = c .before .before .before .loop in
     let a = c .before .before .before .before .before .args in
-    (search needs, rw (c .clash .ensures, c .before .entry-at .ensures) (clash-more (now (a .file)) (a .entry) (l .i) (l .any) (l .inv .1)))
+    let more = clash-more (now (a .file)) (a .entry) (l .i) (l .any) (l .inv .1) in
+    (search needs, rw (c .clash .ensures, c .before .entry-at .ensures) more)
 
 returns : tie.Need-returns Inv-loop μ-loop
 returns c =

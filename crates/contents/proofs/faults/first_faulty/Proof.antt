@@ -20,7 +20,12 @@ sound-requires-2 c κs = search needs
 
 returns-2 : tie.Need-returns-2
 unfolding firstFaulty
-returns-2 c = rw (sym (c .before .before .before .sound .ensures) ∙ not-false _ (c .before .before .if1 .left), sym (c .before .sound2 .ensures) ∙ not-true _ (c .if2 .taken))
+returns-2 c =
+    let w = c .before .before in
+    rw (
+      sym (w .before .sound .ensures) ∙ not-false _ (w .if1 .left),
+      sym (c .before .sound2 .ensures) ∙ not-true _ (c .if2 .taken),
+    )
 
 sound-requires-3 : tie.Need-sound-requires-3
 sound-requires-3 c κs = search needs
@@ -28,9 +33,11 @@ sound-requires-3 c κs = search needs
 returns-3 : tie.Need-returns-3
 unfolding firstFaulty
 returns-3 c =
+    let v = c .before .before in
+    let w = v .before .before in
     rw (
-      sym (c .before .before .before .before .before .sound .ensures) ∙ not-false _ (c .before .before .before .before .if1 .left),
-      sym (c .before .before .before .sound2 .ensures) ∙ not-false _ (c .before .before .if2 .left),
+      sym (w .before .sound .ensures) ∙ not-false _ (w .if1 .left),
+      sym (v .before .sound2 .ensures) ∙ not-false _ (v .if2 .left),
       sym (c .before .sound3 .ensures) ∙ not-true _ (c .if3 .taken),
     )
 
@@ -40,20 +47,26 @@ sound-requires-4 c κs = search needs
 returns-4 : tie.Need-returns-4
 unfolding firstFaulty
 returns-4 c =
+    let u = c .before .before in
+    let v = u .before .before in
+    let w = v .before .before in
     rw (
-      sym (c .before .before .before .before .before .before .before .sound .ensures) ∙ not-false _ (c .before .before .before .before .before .before .if1 .left),
-      sym (c .before .before .before .before .before .sound2 .ensures) ∙ not-false _ (c .before .before .before .before .if2 .left),
-      sym (c .before .before .before .sound3 .ensures) ∙ not-false _ (c .before .before .if3 .left),
+      sym (w .before .sound .ensures) ∙ not-false _ (w .if1 .left),
+      sym (v .before .sound2 .ensures) ∙ not-false _ (v .if2 .left),
+      sym (u .before .sound3 .ensures) ∙ not-false _ (u .if3 .left),
       sym (c .before .sound4 .ensures) ∙ not-true _ (c .if4 .taken),
     )
 
 returns-5 : tie.Need-returns-5
 unfolding firstFaulty
 returns-5 c =
+    let u = c .before .before in
+    let v = u .before .before in
+    let w = v .before .before in
     rw (
-      sym (c .before .before .before .before .before .before .before .sound .ensures) ∙ not-false _ (c .before .before .before .before .before .before .if1 .left),
-      sym (c .before .before .before .before .before .sound2 .ensures) ∙ not-false _ (c .before .before .before .before .if2 .left),
-      sym (c .before .before .before .sound3 .ensures) ∙ not-false _ (c .before .before .if3 .left),
+      sym (w .before .sound .ensures) ∙ not-false _ (w .if1 .left),
+      sym (v .before .sound2 .ensures) ∙ not-false _ (v .if2 .left),
+      sym (u .before .sound3 .ensures) ∙ not-false _ (u .if3 .left),
       sym (c .before .sound4 .ensures) ∙ not-false _ (c .if4 .left),
     )
 

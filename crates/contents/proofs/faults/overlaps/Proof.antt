@@ -15,7 +15,9 @@ returns c = let a = c .before .args in rw (le-ltb 0 (a .size) (omega arith))
 
 returns-2 : tie.Need-returns-2
 unfolding overlap
-returns-2 c = let a = c .before .before .args in rw (lt-ltb 0 (a .size) (omega arith), le-ltb 0 (a .extent) (omega arith))
+returns-2 c =
+    let a = c .before .before .args in
+    rw (lt-ltb 0 (a .size) (omega arith), le-ltb 0 (a .extent) (omega arith))
 
 add-if3 : tie.Need-add-if3
 add-if3 c = search needs

@@ -27,7 +27,9 @@ returns c = let a = c .before .before .before .before .args in rw (lt-leb 1 (a .
 
 returns-2 : tie.Need-returns-2
 unfolding standsIn
-returns-2 c = let a = c .before .before .before .before .before .args in rw (le-leb 1 (a .entry .kind) (c .before .if1 .left), lt-leb (a .entry .kind) 4 (c .if2 .taken))
+returns-2 c =
+    let a = c .before .before .before .before .before .args in
+    rw (le-leb 1 (a .entry .kind) (c .before .if1 .left), lt-leb (a .entry .kind) 4 (c .if2 .taken))
 
 returns-3 : tie.Need-returns-3
 unfolding standsIn

@@ -40,7 +40,10 @@ returns-3 c =
     (c .if3 .taken)
 
 entry-at-requires-4 : tie.Need-entry-at-requires-4
-entry-at-requires-4 c κs = let h = fits (c .before .before .before .before .before .before .before .before .before .before) in search needs
+entry-at-requires-4 c κs =
+    let v = c .before .before .before .before .before .before in
+    let h = fits (v .before .before .before .before) in
+    search needs
 
 returns-4 : tie.Need-returns-4
 returns-4 c =
