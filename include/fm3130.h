@@ -542,13 +542,13 @@ struct fm3130_judgement {
  * Returns
  *   number 0, place n   all n answers agree (n is 0 where the lists are empty)
  *   number 1, place n   answer n, counted from 0, is wrong, and every answer before it is right
- *   number 2, place n   entry n of the table, 1 to 4, is faulty, and every entry before it is sound:
- *                       the file ends inside the entry; its kind is none, or that of an earlier one;
- *                       its body passes the end of the file (the sum is exact), or overlaps the
- *                       table or the body of an earlier entry (an empty body overlaps nothing); or
- *                       the body is one that fm3130_run refuses: an image by 2, a memory by 1,
- *                       events by 3; or, of events and answers, it is the later one in the table
- *                       and they are not equally many
+ *   number 2, place n   entry n of the table, 1 to 4, is faulty, and every entry before it is
+ *                       sound: the file ends inside the entry; its kind is none, or that of an
+ *                       earlier one; its body passes the end of the file (the sum is exact), or
+ *                       overlaps the table or the body of an earlier entry (an empty body overlaps
+ *                       nothing); or the body is one that fm3130_run refuses: an image by 2, a
+ *                       memory by 1, events by 3; or, of events and answers, it is the later one in
+ *                       the table and they are not equally many
  *   number 3, place 0   file_length is above 61,440; nothing else is tested
  *
  * Uses some 9 KiB of stack, most of it for the copy of the memory.

@@ -1,9 +1,9 @@
 /* SPDX-License-Identifier: Apache-2.0 */
 /*
- * fm3130_judge through the header. A capture is built here so that its verdict is known: K12's run in
- * every order of the four sections; each answer wrong; every kind of fault at every entry; all pairs
- * of faulty entries; every cut of the table; overlaps by one byte on each side; empty bodies; the
- * longest capture and one byte more.
+ * fm3130_judge through the header. A capture is built here so that its verdict is known: K12's run
+ * in every order of the four sections; each answer wrong; every kind of fault at every entry; all
+ * pairs of faulty entries; every cut of the table; overlaps by one byte on each side; empty bodies;
+ * the longest capture and one byte more.
  */
 #include <string.h>
 
@@ -214,7 +214,7 @@ static void check_pairs(const uint32_t order[ENTRIES]) {
     }
 }
 
-/* Empty lists may lie anywhere up to the very end; one byte past it, or a body of one byte, may not. */
+/* Empty lists may lie anywhere up to the very end, but not one byte past it. */
 static void check_empty_bodies(const uint32_t order[ENTRIES]) {
     build(order, 0, GAP);
     unsigned events = entry_of(FM3130_CAPTURE_EVENTS), answers = entry_of(FM3130_CAPTURE_ANSWERS);
