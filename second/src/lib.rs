@@ -19,6 +19,8 @@
 //! * [`trim`]: trim settings of another maker's clock.
 //! * [`wire`]: the master's side of one whole transaction.
 //! * [`capture`]: judging a capture file, and writing one.
+//! * [`proving_record`], [`proving_history`]: eight lamps and their reports, event
+//!   by event and from the whole history.
 //! * [`host`]: small helpers that play the bus master.
 //! * [`table`]: the cases K1 to K12 of 01, run over the bus.
 //! * [`generate`]: lists of events to run on this and on another program.
@@ -31,6 +33,8 @@ pub mod device;
 pub mod generate;
 pub mod host;
 pub mod mend;
+pub mod proving_history;
+pub mod proving_record;
 pub mod refusal;
 pub mod registers;
 pub mod rolled;

@@ -9,6 +9,7 @@
 //!   in, so with an invalid core too, which no events bring about.
 //! * [`ticks_told`]: short lists of ticks over every midnight of the century and
 //!   the ends of minutes and hours, to ask each tick what rolled over.
+//! * [`lamps`]: lists that read the eight lamps of 02, number 11, in every way.
 //! * [`trim_edges`]: 23,040 errors and settings at the edges of what is allowed.
 //!
 //! What [`exhaustive`] holds; `tests/generators.rs` fails when the numbers are
@@ -70,6 +71,7 @@ mod exhaustive_power;
 mod exhaustive_refused;
 mod exhaustive_registers;
 mod handed_in_lists;
+mod lamp_lists;
 mod random_lists;
 mod random_source;
 mod sample_calendars;
@@ -87,6 +89,7 @@ mod trim_edges;
 
 pub use exhaustive_lists::exhaustive;
 pub use handed_in_lists::{count_handed_in_events, handed_in, handed_in_random, HandedInList};
+pub use lamp_lists::lamps;
 pub use random_lists::random;
 pub use random_source::RandomSource;
 pub use sample_calendars::{invalid_calendars, valid_calendars};
