@@ -1,0 +1,6 @@
+-- SPDX-License-Identifier: Apache-2.0
+pub mod Events
+pub mod Shown
+pub mod Words
+pub mod Byte
+pub mod Proven

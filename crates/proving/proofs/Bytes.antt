@@ -1,0 +1,43 @@
+-- SPDX-License-Identifier: Apache-2.0
+-- A record's bytes hold that record, so nothing is lost between calls; zeros are the record before any event; a list run in
+-- pieces, with the record handed on, is the list run whole; and nothing but the outcome satisfies the contract.
+-- Assumes nothing.
+use Prim.Native.Nat.{ℕ, _+_, _*_, _/_, _%_}
+use mathlib.Core.Path.{_≡_, refl, sym, ap, _∙_}
+use mathlib.Core.Bool.{Bool, true, false, cond}
+use mathlib.Core.List.{List, [], _∷_, _++_}
+use native.Mathlib.Nat.{div-add-mod'}
+use lib.Dec.{eqb}
+use Rattle.device.specs.Event.{eventOf}
+use Rattle.device.specs.declared.State.{State}
+use Rattle.rig.specs.Run.{runOf}
+use Rattle.lamps.specs.Step.{begun, bit, stepOf}
+use Rattle.lamps.specs.Statement.{answeredBy, provenBy}
+use Rattle.proving.specs.Kept.{keptOf, bytesOf, isKept}
+use Rattle.proving.specs.Run.{seen, LampsSettled, Outcome, outcomeOf}
+use Rattle.proving.specs.Laws.{KeptBytes, NoneKept, InPieces}
+use Rattle.lamps.specs.declared.Proving.{Proving}
+use Rattle.proving.specs.declared.Shown.{Shown}
+
+flag : (t : Bool) → eqb (bit t 1) 1 ≡ t
+flag true = refl
+flag false = refl
+
+pub kept-bytes : KeptBytes
+unfolding keptOf bytesOf
+kept-bytes r = rw (flag (r .follower .refused), div-add-mod' (r .follower .place) 256) refl
+
+pub none-kept : NoneKept
+unfolding keptOf isKept
+none-kept = record { held = refl; taken = refl }
+
+pub proven-append : InPieces
+unfolding runOf
+proven-append r s m [] ys = refl
+proven-append r s m (e ∷ xs) ys =
+    proven-append (stepOf r s e (answeredBy (eventOf s m e))) (eventOf s m e .state) (eventOf s m e .memory) xs ys
+
+pub lamps-unique : (i m es a b : List ℕ) (r t : Shown) (i′ m′ a′ b′ i″ m″ a″ b″ : List ℕ)
+    → LampsSettled i m es a b r i′ m′ a′ b′ → LampsSettled i m es a b t i″ m″ a″ b″
+    → seen r i′ m′ a′ b′ ≡ seen t i″ m″ a″ b″
+lamps-unique i m es a b r t i′ m′ a′ b′ i″ m″ a″ b″ p q = p ∙ sym q
