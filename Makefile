@@ -11,7 +11,7 @@ SHELL := bash
 
 # The crates that export functions to C, each an object of its own in libfm3130.a: build/native for this machine,
 # build/official for x86-64.
-ARCHIVES := rig single mend sleep master capture trim
+ARCHIVES := rig single mend sleep master capture proving trim
 
 # Where `make install` puts the library; DESTDIR goes before it.
 PREFIX ?= /usr/local
@@ -50,15 +50,18 @@ test: setup lib ctest ## everything: set-up, the archives, the tests in C and Ru
 check: ## prove the crates that changed, and run the programs
 	@rt check
 
-demo: setup lib host ## play a proving session through the C host, in words, and draw its wires
+demo: setup lib host ## play a proving session through the C host, in words, and draw its wires and its lamps
 	@mkdir -p build/demo
 	@$(HOST) --session --save-events build/demo/events --answers build/demo/answers | tee build/demo/proving-session.txt
 	@$(FM3130) run $(SESSION) --quiet --answers build/demo/script-answers \
 		--vcd build/demo/proving-session.vcd --svg build/demo/proving-session.svg
 	@cmp build/demo/answers build/demo/script-answers
-	@printf '\nThe command fm3130 played %s and got the same answers. To look at:\n' $(SESSION)
-	@printf '  build/demo/proving-session.%s\n' 'txt  the words above' 'svg  the wires, for a browser' \
-		'vcd  the wires, for GTKWave or PulseView'
+	@printf '\nThe command fm3130 played %s and got the same answers. Its lamps, where they change:\n\n' $(SESSION)
+	@$(FM3130) lamps $(SESSION) --svg build/demo/lamps.svg | tee build/demo/lamps.txt | grep -e '<-' -e '^0'
+	@printf '\nTo look at:\n'
+	@printf '  build/demo/%s\n' 'proving-session.txt  the words above' 'proving-session.svg  the wires, for a browser' \
+		'proving-session.vcd  the wires, for GTKWave or PulseView' 'lamps.txt            the lamps after each byte' \
+		'lamps.svg            the lamps below the wires, for a browser'
 
 lib: archives ## the proved archives: build/native (this machine), build/official (x86-64); for C: build/lib
 	@for folder in build/native build/official; do tools/join-archives.sh "$$folder" $(ARCHIVES); done

@@ -1,14 +1,15 @@
 /* SPDX-License-Identifier: Apache-2.0 */
 /*
  * A full proving session: power up, the clock set, a lamp bit proved, a hang inside a byte, power
- * lost and returned, and what is left of it all. scripts/proving-session.bus has the same events.
+ * lost and returned, what is left of it all, and a lamp that goes dark as the bus falls silent.
+ * scripts/proving-session.bus has the same events.
  */
 #include "session.h"
 
 #include "files.h"
 
 /* Where the lamp's byte lies. */
-enum { LAMP = 0x1000 };
+enum { LAMP = FM3130_LAMP_ADDRESS };
 
 static void add(struct session *session, uint8_t event) {
     if (session->count == SESSION_ROOM) {
@@ -124,27 +125,49 @@ static void look_again(struct session *session) {
     add_read_lamp(session);
 }
 
-/* A step: what it is, its events, the last byte it must read (or -1), and what that says. */
+/* The master stops inside the next read of the lamp's byte; two seconds pass. */
+static void hang_in_read(struct session *session) {
+    add_read_lamp(session);
+    session->count -= 5; /* the last four clocks and the Stop */
+    add_ticks(session, 2);
+}
+
+/* A third second passes; then a Start frees the bus, and a Stop ends the transfer. */
+static void fall_silent(struct session *session) {
+    add_ticks(session, 1);
+    add(session, FM3130_START);
+    add(session, FM3130_STOP);
+}
+
+/*
+ * A step: what it is, its events, the last byte it must read (or -1), the report of the lamps after
+ * it, and what that says.
+ */
 struct step {
     const char *title;
     void (*events)(struct session *session);
     int read;
+    uint8_t report;
     const char *outcome;
 };
 
 static const struct step steps[SESSION_STEPS] = {
-    {"Power up, with no supply before", power_up, 0x90,
+    {"Power up, with no supply before", power_up, 0x90, 0,
      "LB and POR are 1: the registers were lost"},
-    {"Set the clock to 08:59:58 on 15/11/26, day 7, and wait three seconds", set_clock, 0x09,
+    {"Set the clock to 08:59:58 on 15/11/26, day 7, and wait three seconds", set_clock, 0x09, 0,
      "it is nine o'clock"},
-    {"Prove a lamp bit: write 01h at 1000h and read it back", prove_lamp, 0x01,
+    {"Prove a lamp bit: write 01h at 1000h and read it back", prove_lamp, 0x01, 1,
      "01h came back with all its clocks and its Stop: the bit is proved"},
-    {"The master hangs inside a byte: five clocks of 00h for the same place", hang, -1,
+    {"The master hangs inside a byte: five clocks of 00h for the same place", hang, -1, 1,
      "nothing is stored before the eighth clock"},
-    {"Main power is lost, the backup holds for three seconds, power returns", lose_power, 0x10,
+    {"Main power is lost, the backup holds for three seconds, power returns", lose_power, 0x10, 0,
      "POR is 1: power was lost, and LB is 0: the backup was there"},
-    {"What is left: the clock and the lamp bit", look_again, 0x01,
+    {"What is left: the clock and the lamp bit", look_again, 0x01, 1,
      "the clock ran on, and the proved bit stands"},
+    {"The hang of the minutes: the master stops inside the next read of the lamp", hang_in_read, -1,
+     1, "the lamp is lit for as long as its last whole read is young"},
+    {"A third second without a new whole read; then a Start frees the bus", fall_silent, -1, 0,
+     "the lamp is shown dark, though the memory holds 01h"},
 };
 
 void session_list(struct session *session) {
@@ -164,7 +187,8 @@ int session_tell(const struct session *session, struct story *story, uint8_t *an
         story->last_read = -1;
         story_go_on(story, session->events + from, session->ends[i] - from, answers + from);
         story_pause(story);
-        int holds = story->last_read == step->read;
+        lamps_print(story->out, &story->lamps);
+        int holds = story->last_read == step->read && story->lamps.report == step->report;
         fprintf(story->out, "=> %s\n", holds ? step->outcome : "NOT AS IT MUST BE");
         all_hold = all_hold && holds;
         from = session->ends[i];

@@ -1,5 +1,5 @@
 /* SPDX-License-Identifier: Apache-2.0 */
-/* A full proving session, the same events as scripts/proving-session.bus. */
+/* A full proving session, the same events as scripts/proving-session.bus, and what it proves. */
 #ifndef HOST_SESSION_H
 #define HOST_SESSION_H
 
@@ -8,7 +8,7 @@
 
 #include "story.h"
 
-enum { SESSION_STEPS = 6, SESSION_ROOM = 2048 };
+enum { SESSION_STEPS = 8, SESSION_ROOM = 2048 };
 
 /* The events of the session, and where each step ends. */
 struct session {

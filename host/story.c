@@ -44,6 +44,7 @@ void story_begin(struct story *story, FILE *out, struct device *device) {
     story->out = out;
     story->device = device;
     story->last_read = -1;
+    lamps_begin(&story->lamps);
     take_up(story);
     if (story->phase != PHASE_IDLE) {
         fprintf(out, "begins inside: %s, %u clocks done\n", phase_name(story->phase),
@@ -215,6 +216,7 @@ static uint8_t tell_other(struct story *story, uint8_t event) {
 
 /* One event. Ticks are gathered until another event comes, and so are clocks outside a transfer. */
 static uint8_t tell_event(struct story *story, uint8_t event) {
+    lamps_follow(&story->lamps, story->device, event);
     if (event == FM3130_CLOCK_LOW || event == FM3130_CLOCK_HIGH) {
         if (story->ticks > 0) {
             tell_gathered(story);

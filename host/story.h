@@ -8,6 +8,7 @@
 #include <stdio.h>
 
 #include "device.h"
+#include "lamps.h"
 
 struct story {
     FILE *out;
@@ -21,6 +22,7 @@ struct story {
     uint8_t before[7];   /* the calendar before them */
     uint8_t rolled;      /* the highest field that one of them changed, enum fm3130_rolled */
     int last_read;       /* the last whole byte that the device sent, or -1 */
+    struct lamps lamps;  /* the proving record beside the device */
 };
 
 /* Begins to tell of a device, which may stand inside a byte. */

@@ -15,6 +15,7 @@
  *   fm3130_run          does a list of events on a device
  *   fm3130_step         does one event, and says which field of the calendar it changed
  *   fm3130_catch_up     does up to a leap year of ticks in one call, for a host that slept
+ *   fm3130_lamps        does a list of events, and says which of eight lamps may be shown lit
  *   fm3130_view_number  whether a part of the memory or of the registers can be viewed
  *   fm3130_view         that part itself, never a copy (an inline function, below)
  *   fm3130_mend         puts an old image right that holds an impossible date or time
@@ -89,6 +90,7 @@ extern "C" {
 #define FM3130_IMAGE_BYTES 64
 #define FM3130_MEMORY_BYTES 8192
 #define FM3130_REGISTER_BYTES 15
+#define FM3130_RECORD_BYTES 20
 
 /* Events, one byte each. The list run refuses any greater byte. */
 enum fm3130_event {
@@ -129,7 +131,8 @@ enum fm3130_number {
     FM3130_OK = 0,               /* none below */
     FM3130_WRONG_MEMORY = 1,     /* memory is not 8,192 bytes */
     FM3130_WRONG_STATE = 2,      /* image is not 64 bytes, or no well-formed state writes it
-                                    (the viewer tests length only) */
+                                    (the viewer tests length only); fm3130_lamps: or the
+                                    record's bytes hold no record */
     FM3130_UNKNOWN_EVENT = 3,    /* some event byte is above 7 */
     FM3130_SHORT_ANSWERS = 4,    /* answers shorter than events; fm3130_step: told shorter than
                                     two bytes; fm3130_mend: changes shorter than the list */
@@ -266,6 +269,64 @@ uint64_t fm3130_step(uint8_t *image, uint64_t image_length, uint8_t *memory, uin
  * crates/sleep/specs/Laws.antt. Allocates nothing, keeps nothing, thread-safe on distinct buffers.
  */
 uint64_t fm3130_catch_up(uint8_t *image, uint64_t image_length, uint64_t ticks);
+
+/*
+ * The lamps: eight, one byte each at 1000h to 1007h, bit k of a report for the byte at 1000h + k.
+ */
+#define FM3130_LAMPS 8
+#define FM3130_LAMP_ADDRESS 0x1000u
+
+/* What fm3130_lamps returns. */
+struct fm3130_shown {
+    uint64_t number; /* enum fm3130_number, 0 to 4 */
+    uint64_t report; /* the lamps after the last event, bit k for lamp k: 1 lit, 0 dark; under every
+                        number but 0 all are dark */
+};
+
+/*
+ * Does a list of events as fm3130_run does, and keeps the proving record: which lamps may be shown
+ * lit. A lamp is lit exactly if the last whole read of its byte, all of it after the last bus
+ * failure, gave 1 and fewer than three ticks, counted by the device or not, have passed since the
+ * Stop that ended it. A whole read has all nine clocks and that Stop. The bus fails, and all eight
+ * are dark at once, at a Start or Stop with 1 to 8 clocks of a byte done, at an acknowledge the
+ * device does not give, and at event 5 or 6. What a read gave is what the line showed, so a master
+ * that pulls the line low in the eight clocks of a read reads what it pulls.
+ *
+ * The record is 20 bytes of the caller's, beside the image. 20 zeros are the record before any
+ * event: begin with them on a device between transfers. The record sees the events of these calls
+ * alone, so let no other call change the device between two of them. A list may be cut into pieces
+ * at any place, each piece a call: the outcome is the same.
+ *
+ *   image    image_length bytes, must be 64 and an image as fm3130_run takes it; read and written
+ *   memory   memory_length bytes, must be 8,192, any values; read and written
+ *   events   events_length bytes, any number of them, each at most 7; read
+ *   answers  answers_length bytes, at least as many as events; written
+ *   record   record_length bytes, must be 20, and zeros or as a call left them; read and written
+ *
+ * Returns                 image            memory        answers              record
+ *   number 0, the report  the state after  the bytes     one byte for each    the record after
+ *                         the last event   after it      event, bytes past    the last event
+ *                                                        them unchanged
+ *   number 1 to 4, 0      unchanged        unchanged     unchanged            unchanged
+ *
+ *   1      memory_length is not 8,192
+ *   2      image_length is not 64, or no well-formed state writes the image; or record_length is not
+ *          20, or the bytes hold no record (docs/DECISIONS.md, D93, has their limits)
+ *   3      some event byte is above 7
+ *   4      answers_length is less than events_length
+ *
+ * Image, memory and answers are those of fm3130_run. There is no count: it is the number of events,
+ * or 0 under a refusal.
+ *
+ * Proved: LampsSettled, crates/proving/specs/Run.antt; that the report is the definition above, over
+ * the whole history: proven, crates/lamps/proofs/Proven.antt. Allocates nothing, keeps nothing,
+ * thread-safe on distinct buffers.
+ */
+struct fm3130_shown fm3130_lamps(uint8_t *image, uint64_t image_length, uint8_t *memory,
+                                 uint64_t memory_length, const uint8_t *events,
+                                 uint64_t events_length, uint8_t *answers,
+                                 uint64_t answers_length, uint8_t *record,
+                                 uint64_t record_length);
 
 /*
  * Whether a part of the memory or of the registers can be viewed.

@@ -42,6 +42,11 @@ void check_master(void);
  * Returns the number of captures judged.
  */
 unsigned long check_captures(void);
+/* The master's functions: exact events, bytes that come back, what answers tell, refusals. */
+void check_master(void);
+
+/* fm3130_lamps: what lights and darkens a lamp, and what is refused. */
+void check_lamps(void);
 
 /*
  * Holds the trim functions to a plain search: every error in range with every setting, then what is

@@ -6,8 +6,8 @@
  * K12's exact run, whole and in pieces; every refusal with untouched buffers; their order; the
  * fresh image; the viewer's number and the inline viewer; one event by itself (step.c); images put right
  * (mend.c); many ticks in one call (sleep.c); the master's side (master.c); captures with and without faults
- * (capture.c); then some 320,000 events against the second program (frames.c), and every trim setting of
- * every error against a plain search (trim.c). The first difference ends it with status 1.
+ * (capture.c); the lamps (lamps.c); then some 320,000 events against the second program (frames.c), and every
+ * trim setting of every error against a plain search (trim.c). The first difference ends it with status 1.
  */
 #include <stdarg.h>
 #include <stdio.h>
@@ -336,6 +336,7 @@ int main(int count, char **words) {
     check_steps();
     check_catching_up();
     check_master();
+    check_lamps();
     unsigned long events = check_frames(words[1], words[2]);
     if (events < 100000) {
         differ("only %lu events in %s, must be at least 100000", events, words[1]);
