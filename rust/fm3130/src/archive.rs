@@ -44,6 +44,13 @@ struct Judgement {
     place: u64,
 }
 
+/// What `fm3130_lamps` returns.
+#[repr(C)]
+struct Shown {
+    number: u64,
+    report: u64,
+}
+
 extern "C" {
     fn fm3130_run(
         image: *mut u8,
@@ -115,6 +122,19 @@ extern "C" {
 
     fn fm3130_judge(file: *const u8, file_length: u64) -> Judgement;
 
+    fn fm3130_lamps(
+        image: *mut u8,
+        image_length: u64,
+        memory: *mut u8,
+        memory_length: u64,
+        events: *const u8,
+        events_length: u64,
+        answers: *mut u8,
+        answers_length: u64,
+        record: *mut u8,
+        record_length: u64,
+    ) -> Shown;
+
     fn fm3130_trim_check(error: i32, sign: u64, code: u64) -> u64;
 
     fn fm3130_trim_residue(error: i32, sign: u64, code: u64) -> i32;
@@ -146,6 +166,33 @@ pub fn run(
     };
     // The count is the number of events, so it is a length of a slice and fits.
     Refusal::outcome_of(ran.number).map(|()| ran.count as usize)
+}
+
+/// Runs a list with the proving record; returns the report.
+pub fn lamps(
+    image: &mut [u8],
+    memory: &mut [u8],
+    events: &[u8],
+    answers: &mut [u8],
+    record: &mut [u8],
+) -> Result<u8, Refusal> {
+    // SAFETY: as in `run`: the pointers and lengths of live slices, exclusive where they are written.
+    let shown = unsafe {
+        fm3130_lamps(
+            image.as_mut_ptr(),
+            image.len() as u64,
+            memory.as_mut_ptr(),
+            memory.len() as u64,
+            events.as_ptr(),
+            events.len() as u64,
+            answers.as_mut_ptr(),
+            answers.len() as u64,
+            record.as_mut_ptr(),
+            record.len() as u64,
+        )
+    };
+    // The report is proved to be a byte: eight bits.
+    Refusal::outcome_of(shown.number).map(|()| shown.report as u8)
 }
 
 /// Does one event; its answer byte and the number of the field go to the first bytes of `told`.

@@ -8,6 +8,7 @@ use crate::archive;
 use crate::calendar::Calendar;
 use crate::change::Change;
 use crate::entries;
+use crate::lamps::Report;
 use crate::master;
 use crate::refusal::Refusal;
 use crate::rolled::{Rolled, Told};
@@ -274,6 +275,23 @@ impl Device {
         // Number 0: the image is a state's, and every event of a master's transaction is below 8.
         let _ = self.run_into(events, &mut answers);
         answers
+    }
+
+    /// Runs a list of events with a proving record beside it; the answers go to the first bytes of
+    /// `answers`. Returns the report after the last event.
+    pub(crate) fn run_with(
+        &mut self,
+        record: &mut [u8],
+        events: &[u8],
+        answers: &mut [u8],
+    ) -> Result<Report, Refusal> {
+        entries::run_with_lamps(
+            &mut self.image,
+            &mut self.memory[..],
+            events,
+            answers,
+            record,
+        )
     }
 
     /// The state image: its first 15 bytes are the registers.

@@ -2,6 +2,7 @@
 //! The archive's entries on slices of any length.
 
 use crate::archive;
+use crate::lamps::Report;
 use crate::refusal::Refusal;
 use crate::{selector, REGISTER_COUNT};
 
@@ -33,6 +34,38 @@ pub fn run(
     answers: &mut [u8],
 ) -> Result<usize, Refusal> {
     archive::run(image, memory, events, answers)
+}
+
+/// Runs a list of events as [`run`] does, with the proving record's 20 bytes stepped along; returns the
+/// report after the last event. 20 zeros are the record before any event.
+///
+/// # Errors
+///
+/// [`Refusal::MemoryLength`], [`Refusal::Image`] (of the image, or of bytes that hold no record),
+/// [`Refusal::UnknownEvent`] or [`Refusal::ShortAnswers`], the first that applies; then no buffer has
+/// changed, and no lamp may be shown lit.
+///
+/// ```
+/// use fm3130::Refusal;
+///
+/// let (mut image, mut memory, mut answers, mut record) = ([0; 64], [0; 8192], [0; 2], [0; 20]);
+/// fm3130::fresh(&mut image)?;
+/// let report = fm3130::run_with_lamps(&mut image, &mut memory, &[0, 1], &mut answers, &mut record)?;
+/// assert_eq!((report.0, answers), (0, [5, 5]));
+/// assert_eq!(
+///     fm3130::run_with_lamps(&mut image, &mut memory, &[0, 1], &mut answers, &mut record[1..]),
+///     Err(Refusal::Image)
+/// );
+/// # Ok::<(), Refusal>(())
+/// ```
+pub fn run_with_lamps(
+    image: &mut [u8],
+    memory: &mut [u8],
+    events: &[u8],
+    answers: &mut [u8],
+    record: &mut [u8],
+) -> Result<Report, Refusal> {
+    archive::lamps(image, memory, events, answers, record).map(Report)
 }
 
 /// Does one event on a state image and a memory; its answer byte and the number of the field of the

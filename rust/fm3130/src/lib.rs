@@ -14,10 +14,11 @@
 //! * [`State`], [`Calendar`], [`Pin`] and [`registers`] say in words what a state holds.
 //! * [`Rolled`] says which field of the calendar a tick changed.
 //! * [`Device::mend`] puts an impossible date or time right; [`Change`] is a register that it changed.
-//! * [`run`], [`step`], [`catch_up`], [`fresh`], [`view`] and [`mend`] are the archive's entries on slices of any
-//!   length.
+//! * [`run`], [`run_with_lamps`], [`step`], [`catch_up`], [`fresh`], [`view`] and [`mend`] are the archive's entries
+//!   on slices of any length.
 //! * [`Refusal`] is why an entry did nothing, with 01's number.
 //! * [`capture`] writes and judges captures: a recorded run in one file.
+//! * [`Lamps`] is the proving record beside a device: which of eight lamps may be shown lit.
 //! * [`trim`] proposes and checks trim settings of another maker's clock; it needs no device.
 //!
 //! No function of this crate panics, whatever it is given.
@@ -53,6 +54,7 @@ mod change;
 mod device;
 mod entries;
 pub mod event;
+mod lamps;
 pub mod master;
 mod refusal;
 pub mod registers;
@@ -65,7 +67,8 @@ pub use answer::{Answer, Pin, PinFunction};
 pub use calendar::Calendar;
 pub use change::Change;
 pub use device::Device;
-pub use entries::{catch_up, fresh, mend, run, step, view};
+pub use entries::{catch_up, fresh, mend, run, run_with_lamps, step, view};
+pub use lamps::{Lamps, Report};
 pub use refusal::Refusal;
 pub use rolled::{Rolled, Told};
 pub use state::{Phase, Power, Side, State};
@@ -78,6 +81,9 @@ pub const MEMORY_BYTES: usize = 8192;
 
 /// The most ticks that [`catch_up`] does in one call, those of a leap year.
 pub const MOST_TICKS: u64 = 31_622_400;
+
+/// The length of the proving record's bytes.
+pub const RECORD_BYTES: usize = 20;
 
 /// The number of registers, 00h to 0Eh; they are the first bytes of an image.
 pub const REGISTER_COUNT: usize = 15;
