@@ -8,6 +8,7 @@
 //! * `listing`: event bytes back to a script. `words`: a device in words.
 //! * `mending`: what was put right in an image, in words.
 //! * `place`: where an event stands in a list. `recording`: events from a waveform of the two wires.
+//! * `panel`: the lamps of the proving record beside what happened.
 //! * `trimming`: what trim settings leave of an error, as text.
 //! * `files`, `output`, `progress`, `arguments`, `failure`: the world outside.
 
@@ -22,6 +23,7 @@ mod files;
 mod listing;
 mod mending;
 mod output;
+mod panel;
 mod place;
 mod progress;
 mod recording;

@@ -1,9 +1,9 @@
 // SPDX-License-Identifier: Apache-2.0
 //! What happened, a line for each byte.
 
-use fm3130::{event, Pin, Power};
+use fm3130::{event, Power};
 
-use crate::bus::{BusByte, Direction, Happening, Listener, PowerChange, TickReport};
+use crate::bus::{Beside, BusByte, Direction, Happening, Listener, PowerChange, TickReport};
 use crate::failure::Outcome;
 use crate::output::Output;
 
@@ -20,13 +20,13 @@ impl<'run> Transcript<'run> {
 }
 
 impl Listener for Transcript<'_> {
-    fn happening(&mut self, happening: &Happening, _: Pin) -> Outcome {
+    fn happening(&mut self, happening: &Happening, _: Beside) -> Outcome {
         self.output.line(&line_of(happening))
     }
 }
 
 /// The line of a happening: its notation in scripts, then words.
-fn line_of(happening: &Happening) -> String {
+pub fn line_of(happening: &Happening) -> String {
     match happening {
         Happening::Start { is_repeated: false } => row("[", "Start"),
         Happening::Start { is_repeated: true } => row("[", "repeated Start"),

@@ -33,7 +33,7 @@ fn fails(folder: &Folder, words: &[&str], code: i32, said: &str) -> Ran {
 #[test]
 fn wrong_command_lines() {
     let folder = folder_with_files("wrong-lines");
-    let cases: [(&[&str], &str); 26] = [
+    let cases: [(&[&str], &str); 28] = [
         (&[], "no command"),
         (&["jump"], "unknown command jump"),
         (&["run"], "run needs a SCRIPT"),
@@ -56,6 +56,8 @@ fn wrong_command_lines() {
             "--scl goes with --from-vcd",
         ),
         (&["judge", "good.bus", "--svg", "good.bus"], "name one file"),
+        (&["lamps"], "lamps needs a SCRIPT"),
+        (&["lamps", "good.bus", "--vcd", "x"], "unknown option --vcd"),
         (&["trim"], "trim needs an ERROR"),
         (&["trim", "-six"], "-six is no error"),
         (&["trim", "1.5"], "1.5 is no error"),
@@ -79,6 +81,8 @@ fn two_options_that_name_one_file() {
     run(&["--vcd", "x", "--svg", "x"]);
     run(&["--answers", "good.bus"]);
     run(&["--svg", "../one-file/good.bus"]);
+    let lamps = ["lamps", "good.bus", "--svg", "./good.bus"];
+    fails(&folder, &lamps, 2, one);
     fails(&folder, &["events", "good.bus", "-o", "good.bus"], 2, one);
     fails(&folder, &["fresh", "--image", "a", "--memory", "a"], 2, one);
 }

@@ -1,7 +1,7 @@
 // SPDX-License-Identifier: Apache-2.0
 //! Puts clocks together to bytes, and parts of a run of ticks to one run.
 
-use fm3130::{event, Phase, Pin, Power, State};
+use fm3130::{event, Phase, Pin, Power, Report, State};
 
 use super::happening::{BusByte, BusClock, Direction, Happening, PowerChange};
 use super::meaning::{self, Meaning};
@@ -11,10 +11,19 @@ use super::resume::{earlier_clocks, Earlier};
 use super::ticks::TickReport;
 use crate::failure::Outcome;
 
+/// What is seen beside the bus, after something happened.
+#[derive(Clone, Copy, Debug)]
+pub struct Beside {
+    /// The ACS pin.
+    pub pin: Pin,
+    /// The lamps, where a run keeps the proving record.
+    pub lamps: Option<Report>,
+}
+
 /// Someone who wants to know what happened.
 pub trait Listener {
-    /// One thing happened; the ACS pin is the one after it.
-    fn happening(&mut self, happening: &Happening, pin: Pin) -> Outcome;
+    /// One thing happened.
+    fn happening(&mut self, happening: &Happening, after: Beside) -> Outcome;
 
     /// Nothing more happens.
     fn finish(&mut self) -> Outcome {
@@ -31,27 +40,34 @@ pub struct Grouping<'run> {
     /// The byte under way.
     group: Earlier,
     ticks: Option<TickReport>,
-    /// The ACS pin after the events told.
-    pin: Pin,
+    /// The ACS pin and the lamps after the events told.
+    beside: Beside,
     /// A Start came, and since then neither a Stop nor a loss of power.
     is_in_transfer: bool,
 }
 
 impl<'run> Grouping<'run> {
-    /// A grouping that tells some listeners, of a run that begins in a state.
-    pub fn new(listeners: Vec<&'run mut dyn Listener>, state: &State) -> Grouping<'run> {
+    /// A grouping that tells some listeners, of a run that begins in a state and with some lamps.
+    pub fn new(
+        listeners: Vec<&'run mut dyn Listener>,
+        state: &State,
+        lamps: Option<Report>,
+    ) -> Grouping<'run> {
         Grouping {
             listeners,
             group: earlier_clocks(state),
             ticks: None,
-            pin: state.pin(),
+            beside: Beside {
+                pin: state.pin(),
+                lamps,
+            },
             is_in_transfer: state.phase != Phase::Idle,
         }
     }
 
     fn tell(&mut self, happening: &Happening) -> Outcome {
         for listener in &mut self.listeners {
-            listener.happening(happening, self.pin)?;
+            listener.happening(happening, self.beside)?;
         }
         Ok(())
     }
@@ -59,7 +75,8 @@ impl<'run> Grouping<'run> {
     fn tell_ticks(&mut self) -> Outcome {
         match self.ticks.take() {
             Some(report) => {
-                self.pin = report.after.pin();
+                self.beside.pin = report.after.pin();
+                self.beside.lamps = report.lamps;
                 self.tell(&Happening::Ticks(report))
             }
             None => Ok(()),
@@ -99,21 +116,24 @@ impl<'run> Grouping<'run> {
         }
     }
 
-    fn start(&mut self) -> Outcome {
+    fn start(&mut self, moment: &Moment) -> Outcome {
         self.tell_group()?;
+        self.beside.lamps = moment.lamps;
         let is_repeated = self.is_in_transfer;
         self.is_in_transfer = true;
         self.tell(&Happening::Start { is_repeated })
     }
 
-    fn stop(&mut self) -> Outcome {
+    fn stop(&mut self, moment: &Moment) -> Outcome {
         self.tell_group()?;
+        self.beside.lamps = moment.lamps;
         self.is_in_transfer = false;
         self.tell(&Happening::Stop)
     }
 
     fn clock(&mut self, moment: &Moment) -> Outcome {
-        self.pin = moment.answer.pin();
+        self.beside.pin = moment.answer.pin();
+        self.beside.lamps = moment.lamps;
         self.group.first.get_or_insert(moment.before);
         self.group.clocks.push(BusClock {
             master_is_high: moment.master_is_high(),
@@ -136,7 +156,8 @@ impl<'run> Grouping<'run> {
             self.tell_group()?;
             self.is_in_transfer = false;
         }
-        self.pin = moment.answer.pin();
+        self.beside.pin = moment.answer.pin();
+        self.beside.lamps = moment.lamps;
         let change = PowerChange {
             event: moment.event,
             before: moment.before.power,
@@ -156,8 +177,8 @@ impl Observer for Grouping<'_> {
     fn moment(&mut self, moment: &Moment) -> Outcome {
         self.tell_ticks()?;
         match moment.event {
-            event::START => self.start(),
-            event::STOP => self.stop(),
+            event::START => self.start(moment),
+            event::STOP => self.stop(moment),
             event::CLOCK_LOW | event::CLOCK_HIGH => self.clock(moment),
             _ => self.power(moment),
         }

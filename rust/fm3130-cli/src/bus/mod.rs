@@ -13,7 +13,7 @@ mod resume;
 mod sleep;
 mod ticks;
 
-pub use grouping::{Grouping, Listener};
+pub use grouping::{Beside, Grouping, Listener};
 pub use happening::{BusByte, BusClock, Direction, Happening, PowerChange};
 pub use meaning::named_by;
 pub use moment::{Moment, TickRun};

@@ -1,7 +1,7 @@
 // SPDX-License-Identifier: Apache-2.0
 //! One event and all that is known about it.
 
-use fm3130::{event, Answer, Phase, Pin, Rolled, State};
+use fm3130::{event, Answer, Phase, Pin, Report, Rolled, State};
 
 /// An event that is no tick: what was before, what the device answered, what is after.
 #[derive(Clone, Copy, Debug)]
@@ -14,6 +14,8 @@ pub struct Moment {
     pub before: State,
     /// The state after the event.
     pub after: State,
+    /// The lamps after it, where a run keeps the proving record.
+    pub lamps: Option<Report>,
 }
 
 impl Moment {
@@ -52,6 +54,8 @@ pub struct TickRun {
     pub rolled: Rolled,
     /// The ticks, counted from 1, after which the pin was another than before.
     pub pin_changes: Vec<(u64, Pin)>,
+    /// The lamps after the last, where a run keeps the proving record.
+    pub lamps: Option<Report>,
 }
 
 #[cfg(test)]
@@ -79,6 +83,7 @@ mod tests {
                     answer,
                     before,
                     after: device.state(),
+                    lamps: None,
                 };
                 if event == event::CLOCK_LOW || event == event::CLOCK_HIGH {
                     assert_eq!(moment.device_pulls(), trial);

@@ -1,7 +1,7 @@
 // SPDX-License-Identifier: Apache-2.0
 //! Lets a device do the events of a source, chunk by chunk.
 
-use fm3130::{event, Answer, Device, Pin, Refusal, Rolled, MOST_TICKS};
+use fm3130::{event, Answer, Device, Lamps, Pin, Refusal, Rolled, MOST_TICKS};
 
 use super::moment::{Moment, TickRun};
 use super::sleep;
@@ -32,12 +32,14 @@ pub struct Outputs<'run> {
     pub answers: Option<&'run mut Replacement>,
     /// What is kept of all events.
     pub recording: Option<&'run mut Recorded>,
+    /// The proving record, where it is kept.
+    pub lamps: Option<&'run mut Lamps>,
 }
 
 impl Outputs<'_> {
-    /// Whether every answer is wanted; if not, long runs of ticks are done at once.
-    fn want_answers(&self) -> bool {
-        self.answers.is_some() || self.recording.is_some()
+    /// Whether every event is wanted by itself; if not, long runs of ticks are done at once.
+    fn want_each_event(&self) -> bool {
+        self.answers.is_some() || self.recording.is_some() || self.lamps.is_some()
     }
 }
 
@@ -56,7 +58,7 @@ pub fn play(device: &mut Device, source: &mut dyn Source, outputs: &mut Outputs)
     let mut chunk = Vec::with_capacity(CHUNK);
     let mut answers = vec![0; CHUNK];
     loop {
-        let ticks = if outputs.want_answers() {
+        let ticks = if outputs.want_each_event() {
             0
         } else {
             source.take_ticks()
@@ -122,12 +124,17 @@ fn play_event(
     outputs: &mut Outputs,
 ) -> Outcome {
     let before = device.state();
-    device.run_into(&[event], answers).map_err(refused)?;
+    match &mut outputs.lamps {
+        Some(lamps) => lamps.run_into(device, &[event], answers),
+        None => device.run_into(&[event], answers).map(|_| ()),
+    }
+    .map_err(refused)?;
     let moment = Moment {
         event,
         answer: Answer(answers[0]),
         before,
         after: device.state(),
+        lamps: outputs.lamps.as_ref().map(|lamps| lamps.report()),
     };
     for observer in &mut outputs.observers {
         observer.moment(&moment)?;
@@ -143,6 +150,10 @@ fn play_ticks(
     outputs: &mut Outputs,
 ) -> Outcome {
     let before = device.state();
+    // The record follows on a copy: the device itself is asked which field of the calendar changed.
+    if let Some(lamps) = &mut outputs.lamps {
+        lamps.run(&mut device.clone(), ticks).map_err(refused)?;
+    }
     let mut rolled = Rolled::Nothing;
     for (tick, answer) in ticks.iter().zip(answers.iter_mut()) {
         let told = device.step_told(*tick).map_err(refused)?;
@@ -155,6 +166,7 @@ fn play_ticks(
         after: device.state(),
         rolled,
         pin_changes: pin_changes(before.pin(), answers),
+        lamps: outputs.lamps.as_ref().map(|lamps| lamps.report()),
     };
     for observer in &mut outputs.observers {
         observer.ticks(&run)?;

@@ -5,7 +5,7 @@ use fm3130::{Calendar, Device, Pin, Refusal, Rolled};
 
 use super::moment::TickRun;
 
-/// Does up to [`fm3130::MOST_TICKS`] ticks at once.
+/// Does up to [`fm3130::MOST_TICKS`] ticks at once, where no proving record is kept.
 pub fn through(device: &mut Device, ticks: u64) -> Result<TickRun, Refusal> {
     let asleep = device.clone();
     device.catch_up(ticks)?;
@@ -20,6 +20,7 @@ pub fn through(device: &mut Device, ticks: u64) -> Result<TickRun, Refusal> {
         after,
         rolled: highest_change(&before.core, &after.core),
         pin_changes,
+        lamps: None,
     })
 }
 

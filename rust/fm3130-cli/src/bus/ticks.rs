@@ -3,7 +3,7 @@
 
 use std::fmt;
 
-use fm3130::{registers, Pin, Power, Rolled, State};
+use fm3130::{registers, Pin, Power, Report, Rolled, State};
 
 use super::moment::TickRun;
 
@@ -22,6 +22,8 @@ pub struct TickReport {
     pub pin_changes: Vec<(u64, Pin)>,
     /// The clocks of the byte under way, if there is one.
     pub inside: Option<usize>,
+    /// The lamps after the last, where a run keeps the proving record.
+    pub lamps: Option<Report>,
 }
 
 impl TickReport {
@@ -34,6 +36,7 @@ impl TickReport {
             rolled: run.rolled,
             pin_changes: run.pin_changes.clone(),
             inside,
+            lamps: run.lamps,
         }
     }
 
@@ -46,6 +49,7 @@ impl TickReport {
         self.pin_changes.extend(later);
         self.count += run.count;
         self.after = run.after;
+        self.lamps = run.lamps;
         self.rolled = self.rolled.max(run.rolled);
     }
 
@@ -136,6 +140,7 @@ mod tests {
             after: device.state(),
             rolled: rolled.unwrap_or(Rolled::Nothing),
             pin_changes,
+            lamps: None,
         }
     }
 

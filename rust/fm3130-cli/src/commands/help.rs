@@ -8,13 +8,14 @@ use crate::failure::Outcome;
 use crate::output::Output;
 
 /// The pages by name. The first line of each file is its licence and is not shown.
-const PAGES: [(&str, &str); 8] = [
+const PAGES: [(&str, &str); 10] = [
     ("help", include_str!("../help/help.txt")),
     ("run", include_str!("../help/run.txt")),
     ("events", include_str!("../help/events.txt")),
     ("view", include_str!("../help/view.txt")),
     ("fresh", include_str!("../help/fresh.txt")),
     ("judge", include_str!("../help/judge.txt")),
+    ("lamps", include_str!("../help/lamps.txt")),
     ("mend", include_str!("../help/mend.txt")),
     ("trim", include_str!("../help/trim.txt")),
     ("script", include_str!("../help/script.txt")),

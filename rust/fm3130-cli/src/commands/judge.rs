@@ -219,7 +219,7 @@ fn tell_difference(
         "Event {index}: {}. By the rules; the recording differs at the arrow.",
         shown.place
     );
-    let mut drawing = Drawing::new(&mut drawn, &title, &shown.device.state());
+    let mut drawing = Drawing::new(&mut drawn, &title, &shown.device.state(), None);
     if let Some(clock) = shown.clock {
         drawing.point_at(clock, "differs", shown.pin_before);
     }
@@ -296,12 +296,13 @@ impl Shown {
     /// Lets the device do the events before a listener.
     fn play(&self, listener: &mut dyn Listener) -> Outcome {
         let mut device = self.device.clone();
-        let mut grouping = Grouping::new(vec![listener], &device.state());
+        let mut grouping = Grouping::new(vec![listener], &device.state(), None);
         let mut outputs = Outputs {
             observers: vec![&mut grouping],
             prints: true,
             answers: None,
             recording: None,
+            lamps: None,
         };
         bus::play(
             &mut device,

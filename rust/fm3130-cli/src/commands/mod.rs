@@ -5,6 +5,7 @@ mod events;
 mod fresh;
 mod help;
 mod judge;
+mod lamps;
 mod mend;
 mod run;
 mod trim;
@@ -32,6 +33,7 @@ pub fn dispatch(mut words: Vec<OsString>) -> Outcome {
         Some("view") => view::command(words),
         Some("fresh") => fresh::command(words),
         Some("judge") => judge::command(words),
+        Some("lamps") => lamps::command(words),
         Some("mend") => mend::command(words),
         Some("trim") => trim::command(words),
         Some("help" | "--help" | "-h") => help::command(words),

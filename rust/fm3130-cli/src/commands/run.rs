@@ -120,7 +120,7 @@ fn open_source(
 }
 
 /// A file's name without its folder, for the head of a drawing.
-fn title_of(path: &Path) -> String {
+pub(super) fn title_of(path: &Path) -> String {
     match path.file_name() {
         Some(name) if path != Path::new("-") => name.to_string_lossy().into_owned(),
         _ => "standard input".to_string(),
@@ -169,12 +169,12 @@ fn play_to(
     let prints = output.is_some();
     let mut transcript = output.map(Transcript::new);
     let svg = targets.svg.as_mut();
-    let mut drawing = svg.map(|file| Drawing::new(file, title, &state));
+    let mut drawing = svg.map(|file| Drawing::new(file, title, &state, None));
     let mut listeners: Vec<&mut dyn Listener> = Vec::new();
     listeners.extend(transcript.as_mut().map(|one| one as &mut dyn Listener));
     listeners.extend(drawing.as_mut().map(|one| one as &mut dyn Listener));
     let is_heard = !listeners.is_empty();
-    let mut grouping = Grouping::new(listeners, &state);
+    let mut grouping = Grouping::new(listeners, &state, None);
     let mut waveform = match targets.vcd.as_mut() {
         Some(file) => Some(Waveform::begin(file, &state)?),
         None => None,
@@ -189,6 +189,7 @@ fn play_to(
         prints,
         answers: targets.answers.as_mut(),
         recording: targets.capture.as_ref().map(|_| &mut targets.recorded),
+        lamps: None,
     };
     bus::play(device, source, &mut outputs)
 }

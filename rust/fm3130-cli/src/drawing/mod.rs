@@ -2,16 +2,16 @@
 //! A drawing (SVG) of the bus: the two wires, who pulls them, the bytes and what they mean.
 //!
 //! [`Drawing`] makes cells of what happens and puts them into rows as wide as a page. A [`Row`]
-//! draws cells; [`Wires`] are the levels that go on from cell to cell and from row to row; `page`
-//! is all that is not a row.
+//! draws cells, and lamps below them where a run keeps the proving record; [`Wires`] are the levels that go
+//! on from cell to cell and from row to row; `page` is all that is not a row.
 
 mod page;
 mod row;
 mod wires;
 
-use fm3130::{event, Pin};
+use fm3130::{event, Pin, Report};
 
-use crate::bus::{BusByte, Happening, Listener, PowerChange, TickReport};
+use crate::bus::{Beside, BusByte, Happening, Listener, PowerChange, TickReport};
 use crate::failure::Outcome;
 use crate::files::Replacement;
 use row::{Aside, Mark, Row};
@@ -28,6 +28,7 @@ pub struct Drawing<'run> {
     /// The rows that are full.
     rows: Vec<String>,
     cells: usize,
+    has_lamps: bool,
     /// What happened inside the byte under way; it is drawn with the byte.
     marks: Vec<Mark>,
     /// The clocks drawn.
@@ -37,12 +38,18 @@ pub struct Drawing<'run> {
 }
 
 impl<'run> Drawing<'run> {
-    /// A drawing for a run that begins in a state.
-    pub fn new(file: &'run mut Replacement, title: &str, state: &fm3130::State) -> Drawing<'run> {
+    /// A drawing for a run that begins in a state, and with some lamps if any are to be drawn.
+    pub fn new(
+        file: &'run mut Replacement,
+        title: &str,
+        state: &fm3130::State,
+        lamps: Option<Report>,
+    ) -> Drawing<'run> {
         Drawing {
             file,
             title: title.to_string(),
-            row: Row::new(Wires::of(state)),
+            row: Row::new(Wires::of(state, lamps)),
+            has_lamps: lamps.is_some(),
             rows: Vec::new(),
             cells: 0,
             marks: Vec::new(),
@@ -56,7 +63,7 @@ impl<'run> Drawing<'run> {
         self.pointed = Some(Mark {
             clocks: clock,
             name: name.to_string(),
-            pin,
+            after: Beside { pin, lamps: None },
         });
     }
 
@@ -107,12 +114,12 @@ impl<'run> Drawing<'run> {
     }
 
     /// A box between bytes, or a mark inside one.
-    fn aside(&mut self, aside: &Aside, inside: Option<usize>, pin: Pin) {
+    fn aside(&mut self, aside: &Aside, inside: Option<usize>, after: Beside) {
         match inside {
             Some(clocks) => self.marks.push(Mark {
                 clocks,
                 name: aside.name.clone(),
-                pin,
+                after,
             }),
             None => {
                 if self.make_room(row::ASIDE) {
@@ -122,11 +129,11 @@ impl<'run> Drawing<'run> {
         }
     }
 
-    fn power(&mut self, change: &PowerChange, pin: Pin) {
+    fn power(&mut self, change: &PowerChange, after: Beside) {
         if change.event != event::POWER_RETURNED {
             self.row.release();
         }
-        self.aside(&box_of_power(change), change.inside, pin);
+        self.aside(&box_of_power(change), change.inside, after);
     }
 }
 
@@ -162,7 +169,7 @@ fn box_of_power(change: &PowerChange) -> Aside {
 }
 
 impl Listener for Drawing<'_> {
-    fn happening(&mut self, happening: &Happening, pin: Pin) -> Outcome {
+    fn happening(&mut self, happening: &Happening, after: Beside) -> Outcome {
         let inside = match happening {
             Happening::Start { is_repeated } => {
                 self.start(*is_repeated);
@@ -177,17 +184,18 @@ impl Listener for Drawing<'_> {
                 None
             }
             Happening::Ticks(report) => {
-                self.aside(&box_of_ticks(report), report.inside, pin);
+                self.aside(&box_of_ticks(report), report.inside, after);
                 report.inside
             }
             Happening::Power(change) => {
-                self.power(change, pin);
+                self.power(change, after);
                 change.inside
             }
         };
-        // What is inside a byte is drawn with the byte, and so is the pin after it.
+        // What is inside a byte is drawn with the byte, and so are the pin and the lamps after it.
         if inside.is_none() {
-            self.row.pin(pin);
+            self.row.pin(after.pin);
+            self.row.lamps(after.lamps);
         }
         Ok(())
     }
@@ -201,7 +209,7 @@ impl Listener for Drawing<'_> {
                 "fm3130: the drawing stops after {MOST_CELLS} cells; --vcd has no such limit"
             );
         }
-        let page = page::whole(&self.title, &self.rows, is_cut);
+        let page = page::whole(&self.title, &self.rows, is_cut, self.has_lamps);
         self.file.write(page.as_bytes())
     }
 }

@@ -39,10 +39,16 @@ pub fn color_of(puller: Puller) -> &'static str {
     }
 }
 
+/// The colour of a lamp that is lit.
+pub const LIT: &str = "#e0a100";
+/// The colour of a lamp that is dark.
+pub const DARK: &str = "#d5dae1";
+
 /// The whole drawing.
-pub fn whole(title: &str, rows: &[String], is_cut: bool) -> String {
+pub fn whole(title: &str, rows: &[String], is_cut: bool, has_lamps: bool) -> String {
     let foot = if is_cut { 30.0 } else { 10.0 };
-    let height = HEAD + row::HEIGHT * rows.len() as f64 + foot;
+    let height_of_row = row::height(has_lamps);
+    let height = HEAD + height_of_row * rows.len() as f64 + foot;
     let mut page = format!(
         "<?xml version=\"1.0\" encoding=\"UTF-8\"?>\n\
          <svg xmlns=\"http://www.w3.org/2000/svg\" width=\"{WIDTH}\" height=\"{height}\" \
@@ -51,7 +57,7 @@ pub fn whole(title: &str, rows: &[String], is_cut: bool) -> String {
     );
     page.push_str(&head(title));
     for (index, row) in rows.iter().enumerate() {
-        let top = HEAD + row::HEIGHT * index as f64;
+        let top = HEAD + height_of_row * index as f64;
         page.push_str(&format!(
             "<g transform=\"translate(0,{top})\">\n{row}</g>\n"
         ));

@@ -1,14 +1,14 @@
 // SPDX-License-Identifier: Apache-2.0
-//! One row of a drawing: cells from left to right above the wires SCL, SDA and ACS.
+//! One row of a drawing: cells from left to right above the wires SCL, SDA and ACS, and the lamps.
 
-use fm3130::{Pin, PinFunction};
+use fm3130::{Pin, PinFunction, Report};
 
 use super::page::{self, color_of, fitted, text, FAINT, INK};
 use super::wires::{Puller, Wires};
-use crate::bus::{BusByte, BusClock, Direction};
+use crate::bus::{Beside, BusByte, BusClock, Direction};
 
-/// The height of a row.
-pub const HEIGHT: f64 = 150.0;
+/// The height of a row without lamps.
+const HEIGHT: f64 = 150.0;
 /// Where the wires begin.
 pub const LEFT: f64 = 52.0;
 /// Where the wires end at most.
@@ -38,14 +38,26 @@ const DIGITS: f64 = 109.0;
 const PIN_HIGH: f64 = 120.0;
 const PIN_LOW: f64 = 132.0;
 
+/// The first lamp's line, and how far the next is below it.
+const LAMP: f64 = 156.0;
+const NEXT_LAMP: f64 = 6.0;
+
+/// The height of a row, with or without the eight lamps.
+pub fn height(has_lamps: bool) -> f64 {
+    match has_lamps {
+        true => HEIGHT + NEXT_LAMP * f64::from(Report::LAMPS) + 14.0,
+        false => HEIGHT,
+    }
+}
+
 /// Something inside a byte, after so many of its clocks.
 pub struct Mark {
     /// The clocks done before it.
     pub clocks: usize,
     /// What it is.
     pub name: String,
-    /// The ACS pin after it.
-    pub pin: Pin,
+    /// The ACS pin and the lamps after it.
+    pub after: Beside,
 }
 
 /// Ticks or a power event between bytes.
@@ -63,9 +75,10 @@ pub struct Row {
     wires: Wires,
     /// Where the next cell begins.
     x: f64,
-    /// Where SDA was changed last, and the pin.
+    /// Where SDA was changed last, the pin, and a lamp.
     data_from: f64,
     pin_from: f64,
+    lamps_from: f64,
     /// Boxes and texts.
     shapes: String,
     /// The path of SCL.
@@ -90,6 +103,10 @@ impl Row {
         for (name, y) in [("SCL", CLOCK_LOW), ("SDA", DATA_LOW), ("ACS", PIN_LOW)] {
             shapes.push_str(&text(20.0, y - 4.0, 10.0, "start", FAINT, name));
         }
+        if wires.lamps.is_some() {
+            let y = LAMP + NEXT_LAMP * 3.5 + 3.0;
+            shapes.push_str(&text(20.0, y, 10.0, "start", FAINT, "lamps"));
+        }
         shapes.push_str(&pin_words(LEFT, wires.pin));
         Row {
             clock: format!("M{LEFT} {}", clock_height(wires.clock_is_high)),
@@ -97,6 +114,7 @@ impl Row {
             x: LEFT,
             data_from: LEFT,
             pin_from: LEFT,
+            lamps_from: LEFT,
             shapes,
             data: Default::default(),
         }
@@ -240,7 +258,8 @@ impl Row {
             let color = color_of(Puller::Both);
             self.shapes
                 .push_str(&text(x, y, 8.0, "middle", color, &mark.name));
-            self.pin(mark.pin);
+            self.pin(mark.after.pin);
+            self.lamps(mark.after.lamps);
         }
     }
 
@@ -271,6 +290,31 @@ impl Row {
         let pin = self.wires.pin;
         let points = format!("M{:.1} {}H{:.1}", self.pin_from, pin_height(pin), self.x);
         self.pin_path(&points, pin);
+    }
+
+    /// The lamps after a cell.
+    pub fn lamps(&mut self, lamps: Option<Report>) {
+        if lamps != self.wires.lamps {
+            self.draw_lamps();
+            self.lamps_from = self.x;
+            self.wires.lamps = lamps;
+        }
+    }
+
+    /// The lamps up to here: a broad line where one is lit, the first lamp's above.
+    fn draw_lamps(&mut self) {
+        let Some(report) = self.wires.lamps else {
+            return;
+        };
+        for lamp in 0..Report::LAMPS {
+            let y = LAMP + NEXT_LAMP * f64::from(lamp);
+            let points = format!("M{:.1} {y}H{:.1}", self.lamps_from, self.x);
+            let (color, width) = match report.is_lit(lamp) {
+                true => (page::LIT, 4.0),
+                false => (page::DARK, 1.0),
+            };
+            self.shapes.push_str(&path(&points, color, width));
+        }
     }
 
     /// A line in the colour of the pin; dotted while it toggles.
@@ -321,6 +365,7 @@ impl Row {
     /// The row as text, with all wires drawn to its end.
     pub fn into_text(mut self) -> String {
         self.draw_pin();
+        self.draw_lamps();
         let end = self.x;
         self.clock.push_str(&format!("H{end:.1}"));
         let puller = self.wires.puller;

@@ -1,7 +1,7 @@
 // SPDX-License-Identifier: Apache-2.0
 //! The levels of the wires, which go on from cell to cell.
 
-use fm3130::{Phase, Pin, PinFunction, State};
+use fm3130::{Phase, Pin, PinFunction, Report, State};
 
 use crate::bus::BusClock;
 
@@ -42,6 +42,8 @@ pub struct Wires {
     pub puller: Puller,
     /// The ACS pin.
     pub pin: Pin,
+    /// The lamps, where they are drawn.
+    pub lamps: Option<Report>,
 }
 
 impl Wires {
@@ -54,14 +56,16 @@ impl Wires {
                 function: PinFunction::Released,
                 alarm: false,
             },
+            lamps: None,
         }
     }
 
-    /// The wires of a run that begins in a state.
-    pub fn of(state: &State) -> Wires {
+    /// The wires of a run that begins in a state, and with some lamps.
+    pub fn of(state: &State, lamps: Option<Report>) -> Wires {
         Wires {
             clock_is_high: state.phase == Phase::Idle,
             pin: state.pin(),
+            lamps,
             ..Wires::free()
         }
     }

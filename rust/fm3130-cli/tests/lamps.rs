@@ -1,0 +1,97 @@
+// SPDX-License-Identifier: Apache-2.0
+//! The lamps on the command line: after each thing that happens, and as a drawing below the wires.
+
+mod support;
+
+use support::{script, Folder};
+
+/// The lines of a run in which a lamp changed.
+fn changes(printed: &str) -> Vec<&str> {
+    printed.lines().filter(|line| line.contains("<-")).collect()
+}
+
+#[test]
+fn the_proving_session_ends_with_a_hang_and_a_dark_lamp() {
+    let folder = Folder::new("lamps-session");
+    let printed = folder.succeed(&["lamps", &script("proving-session")]);
+    assert!(printed.starts_with("01234567  lamps at 1000h to 1007h: * lit, . dark\n"));
+    assert_eq!(
+        changes(&printed),
+        [
+            "*.......  ]       Stop  <- lamp 0 lit",
+            "........  lost    main power lost, backup present  <- lamp 0 dark",
+            "*.......  ]       Stop  <- lamp 0 lit",
+            "........  t*3     3 ticks after 5 clocks of a byte: 09:00:06, 15/11/26, day 7 -> \
+             09:00:09, 15/11/26, day 7, a second passed  <- lamp 0 dark",
+        ]
+    );
+}
+
+#[test]
+fn lamps_after_each_thing_that_happens() {
+    let folder = Folder::new("lamps-words");
+    let text = "[ A0 10 00 01 00 01 ] [ A0 10 00 [ A1 r:3 ] t*2 [ A0 10 00 {101} ] [ D2 ] [ A1 r ]";
+    let ran = folder.run_with(&["lamps", "-"], text);
+    assert_eq!(ran.code, 0, "{}", ran.errors);
+    let shown: Vec<&str> = ran.output.lines().map(|line| &line[..8]).collect();
+    let lit = shown.iter().filter(|lamps| **lamps == "*.*.....").count();
+    // The Stop, the ticks, a Start, three bytes and the part byte: the Stop that cuts it darkens all.
+    assert_eq!(lit, 7, "{}", ran.output);
+    assert_eq!(
+        changes(&ran.output),
+        [
+            "*.*.....  ]       Stop  <- lamps 0, 2 lit",
+            "........  ]       Stop  <- lamps 0, 2 dark",
+            // The last read is from the current address, which the cut byte left at 1000h.
+            "*.......  ]       Stop  <- lamp 0 lit",
+        ]
+    );
+}
+
+/// Three ticks, a byte that is not acknowledged, a cut byte and a loss of power each darken a lamp.
+#[test]
+fn what_darkens_a_lamp() {
+    let folder = Folder::new("lamps-dark");
+    let proved = "[ A0 10 07 01 ] [ A0 10 07 [ A1 r ]";
+    for (then, is_dark) in [
+        ("", false),
+        ("t*2", false),
+        ("t*3", true),
+        ("[ A0 10 07 00 ]", false),
+        ("[ A0 10 07 [", false),
+        ("[ D4", true),
+        ("[ {1} [", true),
+        ("[ A0 {00000000} ]", true),
+        ("lost", true),
+        ("gone", true),
+        ("power", false),
+        ("[ A0 10 07 [ A1 r [", false),
+    ] {
+        let ran = folder.run_with(&["lamps", "-"], &format!("{proved} {then}"));
+        assert_eq!(ran.code, 0, "{}", ran.errors);
+        let last = ran.output.lines().last().unwrap();
+        let lamps = if is_dark { "........" } else { ".......*" };
+        assert!(last.starts_with(lamps), "{then}: {last}");
+    }
+}
+
+#[test]
+fn the_drawing_has_the_lamps_below_the_wires() {
+    let folder = Folder::new("lamps-drawing");
+    folder.succeed(&["lamps", &script("proving-session"), "--svg", "lamps.svg"]);
+    folder.succeed(&[
+        "run",
+        &script("proving-session"),
+        "--quiet",
+        "--svg",
+        "wires.svg",
+    ]);
+    let lamps = String::from_utf8(folder.read("lamps.svg")).unwrap();
+    let wires = String::from_utf8(folder.read("wires.svg")).unwrap();
+    let lit = "stroke=\"#e0a100\"";
+    assert!(lamps.contains(lit) && lamps.contains(">lamps</text>"));
+    assert!(!wires.contains(lit) && !wires.contains(">lamps</text>"));
+    // Eight lines a stretch, at most one of them lit.
+    let dark = lamps.matches("stroke=\"#d5dae1\"").count();
+    assert_eq!((dark + lamps.matches(lit).count()) % 8, 0);
+}
