@@ -33,8 +33,16 @@ pub struct Judgement {
     pub place: u64,
 }
 
+/// What the list run with the proving record returns: the number of 01's table, and the report.
+#[repr(C)]
+#[derive(Clone, Copy, Debug, PartialEq, Eq)]
+pub struct Shown {
+    pub number: u64,
+    pub report: u64,
+}
+
 mod foreign {
-    use super::{Filled, Judgement, Mended, Ran};
+    use super::{Filled, Judgement, Mended, Ran, Shown};
 
     unsafe extern "C" {
         pub fn fm3130_run(
@@ -92,6 +100,18 @@ mod foreign {
             bytes_length: u64,
         ) -> Filled;
         pub fn fm3130_judge(file: *const u8, file_length: u64) -> Judgement;
+        pub fn fm3130_lamps(
+            image: *mut u8,
+            image_length: u64,
+            memory: *mut u8,
+            memory_length: u64,
+            events: *const u8,
+            events_length: u64,
+            answers: *mut u8,
+            answers_length: u64,
+            record: *mut u8,
+            record_length: u64,
+        ) -> Shown;
         pub fn fm3130_trim_check(error: i32, sign: u64, code: u64) -> u64;
         pub fn fm3130_trim_residue(error: i32, sign: u64, code: u64) -> i32;
         pub fn fm3130_trim_propose(error: i32) -> u64;
@@ -120,6 +140,31 @@ pub fn run(image: &mut [u8], memory: &mut [u8], events: &[u8], answers: &mut [u8
             events.len() as u64,
             answers.as_mut_ptr(),
             answers.len() as u64,
+        )
+    }
+}
+
+/// The list run with the proving record.
+pub fn lamps(
+    image: &mut [u8],
+    memory: &mut [u8],
+    events: &[u8],
+    answers: &mut [u8],
+    record: &mut [u8],
+) -> Shown {
+    // SAFETY: five slices of Rust's are non-null and do not overlap, and their lengths are their own.
+    unsafe {
+        foreign::fm3130_lamps(
+            image.as_mut_ptr(),
+            image.len() as u64,
+            memory.as_mut_ptr(),
+            memory.len() as u64,
+            events.as_ptr(),
+            events.len() as u64,
+            answers.as_mut_ptr(),
+            answers.len() as u64,
+            record.as_mut_ptr(),
+            record.len() as u64,
         )
     }
 }

@@ -5,8 +5,10 @@
 //! * [`archive`]: the proved program's entries, as C sees them.
 //! * [`image`]: the second program's device as the 64 bytes of docs/IMAGE.md.
 //! * [`lists`]: a list of events on both, whole and in pieces.
+//! * [`lamps`]: the lamps on both, and lists that try them.
 //! * [`standin`]: what the proved stand-in is run on, and what it has to print.
 //! * [`captures`]: files to judge, the second program's verdict on each, and what the proved judge is run on.
+//! * [`panel`]: what the proved program of the lamps is run on, and what it has to print.
 //! * [`almanac`]: what the proved calendar has to print.
 //! * [`edits`]: what the prover said of each edit that it must refuse.
 
@@ -15,5 +17,7 @@ pub mod archive;
 pub mod captures;
 pub mod edits;
 pub mod image;
+pub mod lamps;
 pub mod lists;
+pub mod panel;
 pub mod standin;
