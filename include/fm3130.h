@@ -311,7 +311,7 @@ struct fm3130_shown {
  *
  *   1      memory_length is not 8,192
  *   2      image_length is not 64, or no well-formed state writes the image; or record_length is not
- *          20, or the bytes hold no record (docs/DECISIONS.md, D93, has their limits)
+ *          20, or the bytes hold no record (docs/DECISIONS.md, D102, has their limits)
  *   3      some event byte is above 7
  *   4      answers_length is less than events_length
  *
