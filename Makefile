@@ -37,7 +37,7 @@ pkg_config = sed -e 's|@INCLUDE@|$(1)|' -e 's|@LIB@|$(2)|' -e 's|@VERSION@|$(VER
 # How long `make fuzz` runs.
 SECONDS := 600
 
-.PHONY: help test check demo lib archives install host ctest second compare edits bench fuzz fmt fmt-check setup clean
+.PHONY: help test check demo lib archives install host ctest second compare edits all-edits bench fuzz fmt fmt-check setup clean
 
 help: ## list these targets
 	@awk -F':.*## ' '/^[a-z-]+:.*## / { printf "make %-10s %s\n", $$1, $$2 }' Makefile
@@ -103,8 +103,12 @@ second: ## the tests of the second program, which is written apart from the crat
 compare: lib ## the proved program and the second program, side by side
 	@$(CARGO_TEST) --package compare
 
-edits: lib ## docs/EDITS.md, from what the prover last said of each edit (rt must-fail, rt ci)
+edits: lib ## docs/EDITS.md, from what the prover last said of each edit (rt must-fail, rt ci, make all-edits)
 	@cargo run --offline --release --quiet --package compare --bin write_edits
+
+# More than an hour on two cores, so `make test` tries those of crates/*/must-fail alone.
+all-edits: ## try every edit, the further ones of edits/ too
+	@tools/all-edits.sh
 
 # Neither of the next two is part of `make test`: times differ from machine to machine, and a search has no end.
 bench: lib ## the proved list run timed beside plain programs; the tables also go to build/bench/SPEED.md

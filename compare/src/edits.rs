@@ -7,11 +7,14 @@
 use std::fs;
 use std::path::{Path, PathBuf};
 
-/// An edit: its crate, its name, and its first line, which says the rule that it breaks.
+/// An edit: its crate, its name, its first line, which says the rule that it breaks, and where it stands: with its crate,
+/// so that the gate tries it, or among the further ones.
 pub struct Edit {
     pub owner: String,
     pub name: String,
     pub rule: String,
+    pub file: PathBuf,
+    pub is_further: bool,
 }
 
 /// A line of docs/EDITS.md.
@@ -37,8 +40,9 @@ const HEADER: &str = r#"<!-- SPDX-License-Identifier: Apache-2.0 -->
 
 Each edit breaks one rule, in the code or in a definition, and leaves the rest as it is: the prover must refuse the crate so
 edited. An edit shows something only where a fact fails, and not a name or the order of the proof; so here is, for each, what
-failed first. `make edits` writes this page from what the prover said when `rt must-fail` or `rt ci` last tried each edit, and a
-test sees that every edit has its line.
+failed first. Those named `CRATE/must-fail/..` are tried by the gate each time, the further ones, `edits/CRATE/..`, by
+`make all-edits`: an edit proves its whole crate anew, and all of them would take the gate past its hour (D105). `make edits`
+writes this page from what the prover said when it last tried each edit, and a test sees that every edit has its line.
 
 "What `f` ensures" is the contract of the function `f`; "law `F.l`" the law `l` in the crate's proofs/F.antt. "`a` is not `b`"
 are two terms that had to be one, shortened; one that only the prover can read is left out.
@@ -50,19 +54,21 @@ are two terms that had to be one, shortened; one that only the prover can read i
 impl Edit {
     /// Its name in the documents.
     pub fn path(&self) -> String {
-        format!("{}/must-fail/{}", self.owner, self.name)
+        match self.is_further {
+            true => format!("edits/{}/{}", self.owner, self.name),
+            false => format!("{}/must-fail/{}", self.owner, self.name),
+        }
     }
 
     /// Its log, where it was tried after it was last written.
     fn log(&self, top: &Path) -> Option<String> {
-        let edit = top.join("crates").join(self.path() + ".edit");
         let log = top
             .join("target/must-fail")
             .join(&self.owner)
             .join(&self.name)
             .join(".log");
         let time = |path: &PathBuf| fs::metadata(path).and_then(|data| data.modified()).ok();
-        (time(&log)? >= time(&edit)?).then(|| fs::read_to_string(&log).ok())?
+        (time(&log)? >= time(&self.file)?).then(|| fs::read_to_string(&log).ok())?
     }
 }
 
@@ -74,7 +80,7 @@ pub fn top() -> PathBuf {
         .to_path_buf()
 }
 
-/// All edits, crate by crate in the order of crates.txt.
+/// All edits, crate by crate in the order of crates.txt; of each crate the gate's first.
 pub fn all(top: &Path) -> Vec<Edit> {
     let list = fs::read_to_string(top.join("crates.txt")).unwrap();
     list.lines()
@@ -85,21 +91,34 @@ pub fn all(top: &Path) -> Vec<Edit> {
 }
 
 fn edits_of(top: &Path, owner: &str) -> Vec<Edit> {
-    let folder = top.join("crates").join(owner).join("must-fail");
+    let gated = top.join("crates").join(owner).join("must-fail");
+    let further = top.join("edits").join(owner);
+    [(gated, false), (further, true)]
+        .into_iter()
+        .flat_map(|(folder, is_further)| edits_in(owner, &folder, is_further))
+        .collect()
+}
+
+fn edits_in(owner: &str, folder: &Path, is_further: bool) -> Vec<Edit> {
     let mut files: Vec<PathBuf> = fs::read_dir(folder)
         .map(|entries| entries.map(|entry| entry.unwrap().path()).collect())
         .unwrap_or_default();
     files.sort();
-    files.iter().map(|file| edit_in(owner, file)).collect()
+    files
+        .into_iter()
+        .map(|file| edit_in(owner, file, is_further))
+        .collect()
 }
 
-fn edit_in(owner: &str, file: &Path) -> Edit {
-    let text = fs::read_to_string(file).unwrap();
+fn edit_in(owner: &str, file: PathBuf, is_further: bool) -> Edit {
+    let text = fs::read_to_string(&file).unwrap();
     let first = text.lines().next().unwrap_or_default();
     Edit {
         owner: owner.to_string(),
         name: file.file_stem().unwrap().to_str().unwrap().to_string(),
         rule: first.trim_start_matches('#').trim().to_string(),
+        file,
+        is_further,
     }
 }
 
@@ -152,7 +171,12 @@ pub fn page(top: &Path, old: &str) -> (String, Vec<String>) {
                 },
                 None => {
                     faults.push(format!("{path}: not tried yet"));
-                    continue;
+                    Row {
+                        edit: path,
+                        rule: edit.rule,
+                        place: "not tried yet".to_string(),
+                        fact: "—".to_string(),
+                    }
                 }
             },
         };
@@ -392,6 +416,8 @@ mod tests {
             owner: "wire".to_string(),
             name: "x".to_string(),
             rule: String::new(),
+            file: PathBuf::new(),
+            is_further: false,
         }
     }
 

@@ -58,6 +58,11 @@ fn fault(name: &str) -> Option<String> {
                 missing()
             }
         }
+        ["edits", owner, label] => {
+            let edit = top().join("edits").join(owner);
+            let is_there = edit.join(format!("{label}.edit")).is_file();
+            (!is_there).then(|| format!("{name} is not there"))
+        }
         [owner, "src", place] => {
             let (file, function) = place.split_once('.').unwrap_or((place, ""));
             let text = text_of(&crates.join(owner).join("src").join(format!("{file}.rt")));
@@ -112,6 +117,7 @@ fn a_name_that_is_gone_is_noticed() {
         "wire/specs/Clock.kep",
         "wire/src/bits.pus",
         "wire/must-fail/none",
+        "edits/wire/none",
         "second/none",
         "rig/proofs/Runs.none",
     ] {
