@@ -82,9 +82,9 @@ extern "C" {
  *   PATCH  nothing that a host can see, but for errors that were put right
  */
 #define FM3130_VERSION_MAJOR 0
-#define FM3130_VERSION_MINOR 2
+#define FM3130_VERSION_MINOR 3
 #define FM3130_VERSION_PATCH 0
-#define FM3130_VERSION "0.2.0"
+#define FM3130_VERSION "0.3.0"
 
 /* Sizes in bytes. The registers are the front of the image. */
 #define FM3130_IMAGE_BYTES 64
