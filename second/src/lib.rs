@@ -21,6 +21,7 @@
 //! * [`capture`]: judging a capture file, and writing one.
 //! * [`proving_record`], [`proving_history`]: eight lamps and their reports, event
 //!   by event and from the whole history.
+//! * [`two_masters`]: who holds the bus, and calls by either master.
 //! * [`host`]: small helpers that play the bus master.
 //! * [`table`]: the cases K1 to K12 of 01, run over the bus.
 //! * [`generate`]: lists of events to run on this and on another program.
@@ -41,6 +42,7 @@ pub mod rolled;
 pub mod state;
 pub mod table;
 pub mod trim;
+pub mod two_masters;
 pub mod wire;
 
 pub use calendar::Calendar;

@@ -14,5 +14,9 @@ pub const UNKNOWN_EVENT: u8 = 3;
 /// "4: answers shorter than events".
 pub const ANSWERS_TOO_SHORT: u8 = 4;
 
+/// 02, number 8: "refused with a new number 7", when the other master holds the
+/// bus, or this one does not and needs it.
+pub const BUS_NOT_HELD: u8 = 7;
+
 /// 02, number 7: "a larger n is refused by number 8".
 pub const TOO_MANY_TICKS: u8 = 8;
