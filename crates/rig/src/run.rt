@@ -42,7 +42,7 @@ pub fn all_known(events: &[u8]) -> bool
 
 // All events, one by one, from a well-formed state: the state they lead to. The answers go to the front of their
 // buffer.
-fn run_events(state: State, memory: &mut [u8], events: &[u8], answers: &mut [u8]) -> State
+pub fn run_events(state: State, memory: &mut [u8], events: &[u8], answers: &mut [u8]) -> State
     requires { ⌜ (wellFormed state ≡ true) × (length (now memory) ≡ memorySize) ⌝ }
     requires { ⌜ (allKnown (now events) ≡ true) × (length (now events) ≤ length (now answers)) ⌝ }
     ensures { λ r. ⌜ RanThrough state (now (memory .entry)) (now (events .entry)) (now (answers .entry))
@@ -61,7 +61,7 @@ fn run_events(state: State, memory: &mut [u8], events: &[u8], answers: &mut [u8]
 }
 
 // What a refused list run returns.
-fn refuse(number: u8) -> Ran
+pub fn refuse(number: u8) -> Ran
     ensures { λ r. ⌜ r ≡ record { number = number; count = 0 } ⌝ }
 {
     Ran {

@@ -1,0 +1,52 @@
+-- SPDX-License-Identifier: Apache-2.0
+-- The two sessions, computed: the second meets what the assurance asks, so a read that sets its address is answered alike by
+-- the theorem; the answers to a read from the current address are computed, and differ.
+-- Assumes nothing.
+use Prim.Native.Nat.{ℕ}
+use mathlib.Core.Path.{_≡_, refl, ap}
+use mathlib.Core.Bool.{true, false}
+use mathlib.Core.List.{List, _++_}
+use native.Mathlib.Omega.{arith}
+use lib.ListN.{getD}
+use Rattle.wire.specs.Bits.{pushed, sentBit, placeAt}
+use Rattle.wire.specs.Slave.{slaveNames, answers, opened}
+use Rattle.wire.specs.Clock.{kept, receivedAt, sentAt, more}
+use Rattle.wire.specs.Memory.{putByte}
+use Rattle.wire.specs.Machine.{clocked, lined}
+use Rattle.companion.specs.Part.{pinOf, lostOf}
+use Rattle.device.specs.Power.{fresh}
+use Rattle.device.specs.Event.{happening, eventOn}
+use Rattle.rig.specs.Run.{runOf, allKnown}
+use Rattle.master.specs.Events.{written, writeEvents}
+use Rattle.handheld.specs.declared.Master.the-variants.{Rig}
+use Rattle.assurance.specs.Session.{afterActs, begin}
+use Rattle.assurance.specs.Same.{Alongside, ReadsIn}
+use Rattle.assurance.specs.Current.{setRead, currentRead, lentBytes, silent, aimed, NoAssurance}
+use Rattle.assurance.proofs.Same.{same-answers}
+
+beside : Alongside Rig (λ a. true) fresh lentBytes silent aimed
+unfolding runOf allKnown happening eventOn lined clocked receivedAt sentAt placeAt pushed sentBit slaveNames answers opened kept more putByte pinOf lostOf writeEvents
+beside =
+    record {
+      between = refl;
+      one = tt;
+      two = (tt, ((tt, (tt, (tt, (tt, (tt, (tt, (tt, (tt, (tt, (tt, (tt, (tt, (tt, (tt, (tt, (tt, (tt, (tt, (tt, (tt, (tt, (tt, (tt, (tt, (tt, (tt, (tt, (tt, (tt, tt))))))))))))))))))))))))))))), tt));
+      alike = refl;
+    }
+
+-- every read of the transaction has its address set
+reads : ReadsIn (λ a. true) false false fresh lentBytes setRead
+unfolding runOf allKnown happening eventOn lined clocked receivedAt sentAt placeAt pushed sentBit slaveNames answers opened kept more putByte pinOf lostOf writeEvents
+reads =
+    (tt, (tt, (tt, (tt, (tt, (tt, (tt, (tt, (tt, (tt, (tt, (tt, (tt, (tt, (tt, (tt, (tt, (tt, (tt, (tt, (tt, (tt, (tt, (tt, (tt, (tt, (tt, (tt, (tt, (tt, (tt, (tt, (tt, (tt, (tt, (tt, (tt, (tt, ((refl, λ z. refl), ((refl, λ z. refl), ((refl, λ z. refl), ((refl, λ z. refl), ((refl, λ z. refl), ((refl, λ z. refl), ((refl, λ z. refl), ((refl, λ z. refl), ((refl, λ z. refl), (tt, tt))))))))))))))))))))))))))))))))))))))))))))))))
+
+pub no-assurance : NoAssurance
+unfolding runOf allKnown happening eventOn lined clocked receivedAt sentAt placeAt pushed sentBit slaveNames answers opened kept more putByte pinOf lostOf writeEvents
+no-assurance =
+    record {
+      alongside = beside;
+      same =
+          same-answers Rig (λ a. true) fresh lentBytes silent aimed (written 0xA0 ++ (written 0 ++ (written 0 ++ currentRead)))
+          beside reads;
+      differs = λ e. let q = ap (λ (l : List ℕ). getD l 10 0) e in omega arith;
+    }

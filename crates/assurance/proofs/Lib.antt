@@ -1,0 +1,12 @@
+-- SPDX-License-Identifier: Apache-2.0
+pub mod Near
+pub mod Mine
+pub mod Theirs
+pub mod Steps
+pub mod Sessions
+pub mod Exact
+pub mod Strict
+pub mod Same
+pub mod Current
+pub mod Entries
+pub mod Demand

@@ -1,0 +1,44 @@
+-- SPDX-License-Identifier: Apache-2.0
+-- 02, number 8: "A read from the current address has no such assurance; say so." Two sessions in which this master does
+-- nothing, and the other, in the second, sets the memory address and writes no byte. A read that sets its address is
+-- answered alike after both; one from the current address is not.
+--   currentRead, setRead     the two reads
+--   silent, aimed            the two sessions
+--   NoAssurance              what is so
+-- Assumes nothing.
+use Prim.Native.Nat.{ℕ}
+use mathlib.Core.Path.{_≡_}
+use mathlib.Core.Bool.{true}
+use mathlib.Core.List.{List, [], _∷_, _++_}
+use Rattle.device.specs.Power.{fresh}
+use Rattle.master.specs.Events.{written, asked, writeEvents}
+use Rattle.handheld.specs.declared.Master.the-variants.{Rig, Handheld}
+use Rattle.assurance.specs.Session.{Act, asks, calls, afterActs, begin}
+use Rattle.assurance.specs.Same.{answersAfter, Alongside}
+
+-- Start, the slave byte A1h, one byte, Stop.
+abbrev pub currentRead : List ℕ
+currentRead = 0 ∷ (written 0xA1 ++ (asked true ++ (1 ∷ [])))
+
+-- Start, the slave byte A0h, the address 0000h, and then the same.
+abbrev pub setRead : List ℕ
+setRead = 0 ∷ (written 0xA0 ++ (written 0 ++ (written 0 ++ currentRead)))
+
+-- Two bytes of memory that differ.
+abbrev pub lentBytes : List ℕ
+lentBytes = 0x00 ∷ 0xFF ∷ []
+
+abbrev pub silent : List Act
+silent = []
+
+abbrev pub aimed : List Act
+aimed = asks Handheld ∷ calls Handheld (writeEvents 1 []) ∷ []
+
+pub record NoAssurance : Type 0 where
+  pub alongside : Alongside Rig (λ a. true) fresh lentBytes silent aimed
+  pub same :
+      answersAfter (afterActs (begin fresh lentBytes) silent) setRead
+      ≡ answersAfter (afterActs (begin fresh lentBytes) aimed) setRead
+  pub differs :
+      answersAfter (afterActs (begin fresh lentBytes) silent) currentRead
+      ≡ answersAfter (afterActs (begin fresh lentBytes) aimed) currentRead → ⊥

@@ -1,0 +1,43 @@
+-- SPDX-License-Identifier: Apache-2.0
+-- A session's acts are the two entries: an ask is `askOf`, and a call is `callOf` on the state's image with room for its
+-- answers, each on the byte that says who holds the bus.
+--   AskAs, CallAs, AsTheEntries   the statements
+-- Assumes nothing.
+use Prim.Native.Nat.{ℕ, _≤_}
+use mathlib.Core.Path.{_≡_}
+use mathlib.Core.Bool.{true, cond}
+use mathlib.Core.List.{List, [], _∷_}
+use lib.ListN.{length}
+use Rattle.device.specs.Chip.{memorySize}
+use Rattle.device.specs.Limits.{wellFormed}
+use Rattle.device.specs.Numbers.{accepted}
+use Rattle.device.specs.declared.State.{State}
+use Rattle.rig.specs.Image.{imageOf}
+use Rattle.handheld.specs.Bus.{mayAsk, masterNumber, holderNumber}
+use Rattle.handheld.specs.Outcome.{notHeld, askOf, callOf}
+use Rattle.handheld.specs.declared.Master.{Master}
+use Rattle.handheld.specs.declared.Holder.{Holder}
+use Rattle.assurance.specs.Session.{World, Act, asks, calls, callNumber, afterAct}
+
+-- Auxiliary: the byte that says who holds the bus.
+abbrev pub busByte : World → List ℕ
+busByte w = holderNumber (w .holder) ∷ []
+
+pub record AskAs (w : World) (x : Master) : Type 0 where
+  pub number : askOf (busByte w) (masterNumber x) .number ≡ cond (mayAsk (w .holder) x) accepted notHeld
+  pub bus : askOf (busByte w) (masterNumber x) .bus ≡ busByte (afterAct w (asks x))
+
+pub record CallAs (w : World) (x : Master) (es a : List ℕ) : Type 0 where
+  pub number : callOf (busByte w) (masterNumber x) (imageOf (w .state)) (w .memory) es a .run .number ≡ callNumber (w .holder) x es
+  pub bus : callOf (busByte w) (masterNumber x) (imageOf (w .state)) (w .memory) es a .bus ≡ busByte (afterAct w (calls x es))
+  pub image :
+      callOf (busByte w) (masterNumber x) (imageOf (w .state)) (w .memory) es a .run .image
+      ≡ imageOf (afterAct w (calls x es) .state)
+  pub memory :
+      callOf (busByte w) (masterNumber x) (imageOf (w .state)) (w .memory) es a .run .memory
+      ≡ afterAct w (calls x es) .memory
+
+pub record AsTheEntries : Type 0 where
+  pub ask : (w : World) (x : Master) → AskAs w x
+  pub call : (w : World) (x : Master) (es a : List ℕ) → wellFormed (w .state) ≡ true → length (w .memory) ≡ memorySize
+      → length es ≤ length a → CallAs w x es a
