@@ -19,6 +19,8 @@
  *   fm3130_view_number  whether a part of the memory or of the registers can be viewed
  *   fm3130_view         that part itself, never a copy (an inline function, below)
  *   fm3130_mend         puts an old image right that holds an impossible date or time
+ *   fm3130_ask          a master asks for the bus, where two masters share a device
+ *   fm3130_call         a master's call of the list run
  *
  * Four functions are the other end of the wire. A host that uses them needs to know no clock:
  *
@@ -139,6 +141,9 @@ enum fm3130_number {
     FM3130_UNKNOWN_SELECTOR = 5, /* viewer: selector neither 0 (memory) nor 1 (registers) */
     FM3130_PAST_THE_END = 6,     /* viewer: start + length (exact sum) passes the end of the
                                     chosen bytes */
+    FM3130_NOT_HELD = 7,         /* two masters: an ask while the other holds the bus, or a call
+                                    with an event 0 to 3 by a master that does not hold it;
+                                    tested after 3 and before 4 */
     FM3130_TOO_MANY_TICKS = 8    /* catching up: more ticks than FM3130_MOST_TICKS */
 };
 
@@ -168,9 +173,19 @@ enum fm3130_selector {
     FM3130_VIEW_REGISTERS = 1 /* the first 15 bytes of the image, registers 00h to 0Eh */
 };
 
-/* What the list run returns. */
+/* The two masters of one bus. A bus byte is the number of the one that holds the bus, or 0. */
+enum fm3130_master {
+    FM3130_NOBODY = 0,  /* in a bus byte: nobody holds the bus */
+    FM3130_RIG = 1,     /* the rig's own controller */
+    FM3130_HANDHELD = 2 /* the maintainer's handheld */
+};
+
+/* The bytes that say who holds the bus. */
+#define FM3130_BUS_BYTES 1
+
+/* What the list run returns, and a master's call of it. */
 struct fm3130_ran {
-    uint64_t number; /* enum fm3130_number, 0 to 4 */
+    uint64_t number; /* enum fm3130_number, 0 to 4; of a master's call also 7 */
     uint64_t count;  /* the events done: all of them under number 0, else none */
 };
 
@@ -618,6 +633,71 @@ struct fm3130_judgement {
  * names-the-first, crates/capture/proofs/Laws.antt. Allocates nothing, keeps nothing, thread-safe.
  */
 struct fm3130_judgement fm3130_judge(const uint8_t *file, uint64_t file_length);
+
+/*
+ * Two masters on one device: the rig's controller and a handheld. Who holds the bus is one byte
+ * beside the image, which the caller keeps: 0 (nobody) at first, then as these two functions leave
+ * it. A master asks for the bus, calls as often as it likes, and the bus is freed when a call ends
+ * whose last Stop, event 5 or event 6 has no Start after it, whoever made that call.
+ *
+ * A read may rely on this. From a device between transfers whose bus nobody holds, a transaction
+ * that sets its address and reads in the same transaction is answered the same, whatever the other
+ * master did before, if the other wrote none of the bytes that are read and no register and did not
+ * read 00h, this master got no number 7 and set the address of each of its register reads in the
+ * same transaction, and the ticks and power events are the same (SameAnswers,
+ * crates/assurance/specs/Same.antt).
+ *
+ * A READ FROM THE CURRENT ADDRESS HAS NO SUCH ASSURANCE: both addresses are as the last transfer
+ * left them, whoever made it. That it can give other bytes is proved too (NoAssurance,
+ * crates/assurance/specs/Current.antt). Set the address, then read, in one transaction.
+ */
+
+/*
+ * A master asks for the bus.
+ *
+ *   bus      bus_length bytes, must be 1 and enum fm3130_master; read and written
+ *   master   FM3130_RIG or FM3130_HANDHELD
+ *
+ * Returns  bus
+ *   0      master: it holds the bus. One that held it already is answered too.
+ *   2      unchanged: bus_length is not 1, its byte is above 2, or master is neither 1 nor 2
+ *   7      unchanged: the other holds the bus
+ *
+ * Proved: AskSettled, crates/handheld/specs/Outcome.antt. Allocates nothing, keeps nothing,
+ * thread-safe on distinct buffers.
+ */
+uint64_t fm3130_ask(uint8_t *bus, uint64_t bus_length, uint64_t master);
+
+/*
+ * A master's call of the list run. Image, memory and answers are those of fm3130_run with the same
+ * events. A call without events 0 to 3 needs no bus: ticks and power events belong to neither.
+ *
+ *   bus      bus_length bytes, must be 1 and enum fm3130_master; read and written
+ *   master   FM3130_RIG or FM3130_HANDHELD
+ *   image, memory, events, answers   as fm3130_run takes them
+ *
+ * Returns                       bus                        image, memory, answers
+ *   number 0, count the events  0 if the last Stop, event  as fm3130_run leaves them
+ *                               5 or event 6 has no Start
+ *                               after it; else unchanged
+ *   number 1 to 4 or 7,         unchanged                  unchanged
+ *   count 0
+ *
+ * Tested in this order:
+ *   1      memory_length is not 8,192
+ *   2      image_length is not 64, or no well-formed state writes the image; bus_length is not 1,
+ *          its byte is above 2, or master is neither 1 nor 2
+ *   3      some event byte is above 7
+ *   7      some event is 0 to 3 and the master does not hold the bus as the call begins
+ *   4      answers_length is less than events_length
+ *
+ * Proved: CallSettled, crates/handheld/specs/Outcome.antt. Allocates nothing, keeps nothing,
+ * thread-safe on distinct buffers.
+ */
+struct fm3130_ran fm3130_call(uint8_t *bus, uint64_t bus_length, uint64_t master, uint8_t *image,
+                              uint64_t image_length, uint8_t *memory, uint64_t memory_length,
+                              const uint8_t *events, uint64_t events_length, uint8_t *answers,
+                              uint64_t answers_length);
 
 /*
  * Trim settings of another maker's clock (document 002), which knows nothing of a device.

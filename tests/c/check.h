@@ -49,6 +49,12 @@ void check_master(void);
 void check_lamps(void);
 
 /*
+ * Two masters: asks, calls, refusals, and a session. Returns the number of calls that were held to
+ * rules written out in the test.
+ */
+unsigned long check_handheld(void);
+
+/*
  * Holds the trim functions to a plain search: every error in range with every setting, then what is
  * refused. Returns the number of settings judged.
  */

@@ -343,8 +343,10 @@ int main(int count, char **words) {
     }
     unsigned long mended = check_mends();
     unsigned long captures = check_captures();
-    printf("ctest: %s: K12, %u cases of refusals and views, the master's side, %lu events as the "
-           "second program, %lu images put right, %lu captures, %lu trim settings as a plain search: equal\n",
-           words[0], cases, events, mended, captures, check_trim());
+    unsigned long calls = check_handheld();
+    printf("ctest: %s: K12, %u cases of refusals and views, the master's side, %lu events as the second program, "
+           "%lu images put right, %lu calls of two masters by plain rules, %lu captures, %lu trim settings as a "
+           "plain search: equal\n",
+           words[0], cases, events, mended, calls, captures, check_trim());
     return 0;
 }
