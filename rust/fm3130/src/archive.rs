@@ -9,7 +9,7 @@ use crate::master;
 use crate::refusal::Refusal;
 use crate::trim::{Setting, Sign};
 
-/// What `fm3130_run` returns.
+/// What `fm3130_run` and `fm3130_call` return.
 #[repr(C)]
 struct Ran {
     number: u64,
@@ -76,6 +76,22 @@ extern "C" {
     ) -> u64;
 
     fn fm3130_catch_up(image: *mut u8, image_length: u64, ticks: u64) -> u64;
+
+    fn fm3130_ask(bus: *mut u8, bus_length: u64, master: u64) -> u64;
+
+    fn fm3130_call(
+        bus: *mut u8,
+        bus_length: u64,
+        master: u64,
+        image: *mut u8,
+        image_length: u64,
+        memory: *mut u8,
+        memory_length: u64,
+        events: *const u8,
+        events_length: u64,
+        answers: *mut u8,
+        answers_length: u64,
+    ) -> Ran;
 
     fn fm3130_view_number(
         image: *const u8,
@@ -229,6 +245,42 @@ pub fn fresh(image: &mut [u8]) -> Result<(), Refusal> {
     // SAFETY: pointer and length are those of one live, exclusive slice.
     let number = unsafe { fm3130_fresh(image.as_mut_ptr(), image.len() as u64) };
     Refusal::outcome_of(number)
+}
+
+/// A master asks for the bus.
+pub fn ask(bus: &mut [u8], master: u64) -> Result<(), Refusal> {
+    // SAFETY: pointer and length are those of one live, exclusive slice.
+    let number = unsafe { fm3130_ask(bus.as_mut_ptr(), bus.len() as u64, master) };
+    Refusal::outcome_of(number)
+}
+
+/// A master runs a list; returns the number of events done.
+pub fn call(
+    bus: &mut [u8],
+    master: u64,
+    image: &mut [u8],
+    memory: &mut [u8],
+    events: &[u8],
+    answers: &mut [u8],
+) -> Result<usize, Refusal> {
+    // SAFETY: as in `run`: the pointers and lengths of live slices, exclusive where they are written.
+    let ran = unsafe {
+        fm3130_call(
+            bus.as_mut_ptr(),
+            bus.len() as u64,
+            master,
+            image.as_mut_ptr(),
+            image.len() as u64,
+            memory.as_mut_ptr(),
+            memory.len() as u64,
+            events.as_ptr(),
+            events.len() as u64,
+            answers.as_mut_ptr(),
+            answers.len() as u64,
+        )
+    };
+    // The count is the number of events, so it is a length of a slice and fits.
+    Refusal::outcome_of(ran.number).map(|()| ran.count as usize)
 }
 
 /// Asks the viewer's number.

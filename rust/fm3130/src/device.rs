@@ -324,6 +324,11 @@ impl Device {
         &mut self.memory
     }
 
+    /// Image and memory, for an entry that writes both.
+    pub(crate) fn parts_mut(&mut self) -> (&mut [u8], &mut [u8]) {
+        (&mut self.image, &mut self.memory[..])
+    }
+
     /// Registers 00h to 0Eh.
     ///
     /// ```

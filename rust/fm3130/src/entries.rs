@@ -123,6 +123,58 @@ pub fn catch_up(image: &mut [u8], ticks: u64) -> Result<(), Refusal> {
     archive::catch_up(image, ticks)
 }
 
+/// A master asks for the bus. The bus byte is the number of the master that holds it, or 0:
+/// [`crate::masters`].
+///
+/// # Errors
+///
+/// [`Refusal::Image`] if `bus` is not one byte of at most 2, or `master` neither 1 nor 2;
+/// [`Refusal::NotHeld`] while the other holds the bus. Then the byte has not changed.
+///
+/// ```
+/// use fm3130::Refusal;
+///
+/// let mut bus = [0];
+/// assert_eq!(fm3130::ask(&mut bus, 2), Ok(()));
+/// assert_eq!(bus, [2]);
+/// assert_eq!(fm3130::ask(&mut bus, 1), Err(Refusal::NotHeld));
+/// assert_eq!(fm3130::ask(&mut bus, 3), Err(Refusal::Image));
+/// ```
+pub fn ask(bus: &mut [u8], master: u64) -> Result<(), Refusal> {
+    archive::ask(bus, master)
+}
+
+/// A master runs a list of events, as [`run`] does; the bus byte becomes 0 if the events free the
+/// bus: the last Stop, event 5 or event 6 has no Start after it. Returns the number of events.
+///
+/// # Errors
+///
+/// [`Refusal::MemoryLength`], [`Refusal::Image`] (also by `bus` or `master`, as in [`ask`]),
+/// [`Refusal::UnknownEvent`], [`Refusal::NotHeld`] or [`Refusal::ShortAnswers`], the first in this
+/// order; then no buffer has changed.
+///
+/// ```
+/// use fm3130::Refusal;
+///
+/// let (mut image, mut memory, mut bus, mut answers) = ([0; 64], [0; 8192], [1], [0; 2]);
+/// fm3130::fresh(&mut image)?;
+/// let by_other = fm3130::call(&mut bus, 2, &mut image, &mut memory, &[0, 1], &mut answers);
+/// assert_eq!(by_other, Err(Refusal::NotHeld));
+/// let by_holder = fm3130::call(&mut bus, 1, &mut image, &mut memory, &[0, 1], &mut answers);
+/// assert_eq!((by_holder, bus), (Ok(2), [0]));
+/// # Ok::<(), Refusal>(())
+/// ```
+pub fn call(
+    bus: &mut [u8],
+    master: u64,
+    image: &mut [u8],
+    memory: &mut [u8],
+    events: &[u8],
+    answers: &mut [u8],
+) -> Result<usize, Refusal> {
+    archive::call(bus, master, image, memory, events, answers)
+}
+
 /// Writes the image of the fresh state: power on, no transfer, both addresses 0.
 ///
 /// # Errors

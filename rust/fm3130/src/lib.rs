@@ -14,8 +14,9 @@
 //! * [`State`], [`Calendar`], [`Pin`] and [`registers`] say in words what a state holds.
 //! * [`Rolled`] says which field of the calendar a tick changed.
 //! * [`Device::mend`] puts an impossible date or time right; [`Change`] is a register that it changed.
-//! * [`run`], [`run_with_lamps`], [`step`], [`catch_up`], [`fresh`], [`view`] and [`mend`] are the archive's entries
-//!   on slices of any length.
+//! * [`masters`] shares a device between two masters: who holds the bus, and what is refused.
+//! * [`run`], [`run_with_lamps`], [`step`], [`catch_up`], [`ask`], [`call`], [`fresh`], [`view`] and [`mend`] are the
+//!   archive's entries on slices of any length.
 //! * [`Refusal`] is why an entry did nothing, with 01's number.
 //! * [`capture`] writes and judges captures: a recorded run in one file.
 //! * [`Lamps`] is the proving record beside a device: which of eight lamps may be shown lit.
@@ -56,6 +57,7 @@ mod entries;
 pub mod event;
 mod lamps;
 pub mod master;
+pub mod masters;
 mod refusal;
 pub mod registers;
 mod rolled;
@@ -67,7 +69,7 @@ pub use answer::{Answer, Pin, PinFunction};
 pub use calendar::Calendar;
 pub use change::Change;
 pub use device::Device;
-pub use entries::{catch_up, fresh, mend, run, run_with_lamps, step, view};
+pub use entries::{ask, call, catch_up, fresh, mend, run, run_with_lamps, step, view};
 pub use lamps::{Lamps, Report};
 pub use refusal::Refusal;
 pub use rolled::{Rolled, Told};

@@ -6,7 +6,8 @@ use std::fmt;
 
 /// Why an entry did nothing, by 01's table and its later numbers. Under every refusal nothing was written.
 ///
-/// They are tested in the order of their numbers, and the first that applies is given.
+/// They are tested in the order of their numbers, 7 between 3 and 4, and the first that applies is
+/// given.
 ///
 /// ```
 /// use fm3130::{Device, Refusal};
@@ -31,12 +32,15 @@ pub enum Refusal {
     Selector,
     /// 6: the viewer's start + length passes the end of the chosen bytes.
     PastTheEnd,
+    /// 7: an ask while the other master holds the bus, or a call with any event 0 to 3 by a master
+    /// that does not hold it. Tested after 3 and before 4.
+    NotHeld,
     /// 8: more ticks to catch up with than a leap year has.
     TooManyTicks,
 }
 
 impl Refusal {
-    /// The number: 1 to 6 of 01's table, or 8.
+    /// The number: 1 to 6 of 01's table, 7 or 8.
     ///
     /// ```
     /// assert_eq!(fm3130::Refusal::Image.number(), 2);
@@ -49,6 +53,7 @@ impl Refusal {
             Refusal::ShortAnswers => 4,
             Refusal::Selector => 5,
             Refusal::PastTheEnd => 6,
+            Refusal::NotHeld => 7,
             Refusal::TooManyTicks => 8,
         }
     }
@@ -66,6 +71,7 @@ impl Refusal {
             Refusal::ShortAnswers => "answers shorter than events",
             Refusal::Selector => "selector neither 0 (memory) nor 1 (registers)",
             Refusal::PastTheEnd => "start + length passes the end of the chosen bytes",
+            Refusal::NotHeld => "this master does not hold the bus",
             Refusal::TooManyTicks => "more than 31,622,400 ticks",
         }
     }
@@ -83,6 +89,7 @@ impl Refusal {
             4 => Refusal::ShortAnswers,
             5 => Refusal::Selector,
             6 => Refusal::PastTheEnd,
+            7 => Refusal::NotHeld,
             _ => Refusal::TooManyTicks,
         })
     }
