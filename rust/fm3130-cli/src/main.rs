@@ -9,6 +9,7 @@
 //! * `mending`: what was put right in an image, in words.
 //! * `place`: where an event stands in a list. `recording`: events from a waveform of the two wires.
 //! * `panel`: the lamps of the proving record beside what happened.
+//! * `sharing`: two masters in turns, as text and SVG.
 //! * `trimming`: what trim settings leave of an error, as text.
 //! * `files`, `output`, `progress`, `arguments`, `failure`: the world outside.
 
@@ -28,6 +29,7 @@ mod place;
 mod progress;
 mod recording;
 mod script;
+mod sharing;
 mod source;
 mod transcript;
 mod trimming;

@@ -8,9 +8,10 @@ use crate::failure::Outcome;
 use crate::output::Output;
 
 /// The pages by name. The first line of each file is its licence and is not shown.
-const PAGES: [(&str, &str); 10] = [
+const PAGES: [(&str, &str); 11] = [
     ("help", include_str!("../help/help.txt")),
     ("run", include_str!("../help/run.txt")),
+    ("share", include_str!("../help/share.txt")),
     ("events", include_str!("../help/events.txt")),
     ("view", include_str!("../help/view.txt")),
     ("fresh", include_str!("../help/fresh.txt")),

@@ -8,6 +8,7 @@ mod judge;
 mod lamps;
 mod mend;
 mod run;
+mod share;
 mod trim;
 mod view;
 
@@ -29,6 +30,7 @@ pub fn dispatch(mut words: Vec<OsString>) -> Outcome {
     }
     match command.to_str() {
         Some("run") => run::command(words),
+        Some("share") => share::command(words),
         Some("events") => events::command(words),
         Some("view") => view::command(words),
         Some("fresh") => fresh::command(words),

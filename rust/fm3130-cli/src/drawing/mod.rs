@@ -5,7 +5,7 @@
 //! draws cells, and lamps below them where a run keeps the proving record; [`Wires`] are the levels that go
 //! on from cell to cell and from row to row; `page` is all that is not a row.
 
-mod page;
+pub mod page;
 mod row;
 mod wires;
 

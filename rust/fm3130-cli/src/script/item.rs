@@ -1,6 +1,8 @@
 // SPDX-License-Identifier: Apache-2.0
 //! What a script is made of.
 
+use fm3130::masters::Master;
+
 /// What the master does at the ninth clock of a byte that it reads.
 #[derive(Clone, Copy, Debug, PartialEq, Eq)]
 pub enum Ninth {
@@ -52,4 +54,15 @@ pub struct Item {
     pub action: Action,
     /// How often.
     pub times: u64,
+}
+
+/// What one of two masters does, up to the next turn.
+#[derive(Clone, Debug, PartialEq, Eq)]
+pub struct Turn {
+    /// Whose turn it is: `a:` the rig's, `b:` the handheld's.
+    pub master: Master,
+    /// What is done.
+    pub items: Vec<Item>,
+    /// The items as they are written.
+    pub words: String,
 }

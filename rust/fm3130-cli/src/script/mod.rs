@@ -1,7 +1,8 @@
 // SPDX-License-Identifier: Apache-2.0
 //! Bus scripts: a notation that bench engineers know, turned into events.
 //!
-//! Text goes through [`parse`] to items, and items through [`Plan`] to events. What is wrong in a
+//! Text goes through [`parse`] to items, and items through [`Plan`] to events; the items of a script
+//! of two masters stand in turns. What is wrong in a
 //! text is a [`Problem`] that shows its place. The notation is described by `fm3130 help script`.
 
 mod item;
@@ -9,6 +10,7 @@ mod parse;
 mod plan;
 mod problem;
 
+pub use item::Turn;
 pub use plan::Plan;
 #[cfg(test)]
 pub use plan::Step;
@@ -21,6 +23,18 @@ use crate::failure::{Failure, Outcome};
 
 /// A script's plan; `-` reads standard input.
 pub fn load(path: &Path) -> Outcome<Plan> {
+    let (name, text) = read(path)?;
+    plan_of(&name, &text)
+}
+
+/// The turns of a script of two masters; `-` reads standard input.
+pub fn load_turns(path: &Path) -> Outcome<Vec<Turn>> {
+    let (name, text) = read(path)?;
+    parse::parse_turns(&text).map_err(|problem| Failure::Script(problem.shown_in(&name, &text)))
+}
+
+/// A script's name and text.
+fn read(path: &Path) -> Outcome<(String, String)> {
     let (name, bytes) = if path == Path::new("-") {
         ("standard input".to_string(), read_standard_input())
     } else {
@@ -31,7 +45,7 @@ pub fn load(path: &Path) -> Outcome<Plan> {
         let place = error.utf8_error().valid_up_to();
         Failure::Script(format!("{name}: not UTF-8 text at byte {place}"))
     })?;
-    plan_of(&name, &text)
+    Ok((name, text))
 }
 
 fn read_standard_input() -> io::Result<Vec<u8>> {

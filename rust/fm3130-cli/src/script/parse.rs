@@ -1,7 +1,9 @@
 // SPDX-License-Identifier: Apache-2.0
 //! From text to items.
 
-use super::item::{Action, Item, Ninth};
+use fm3130::masters::Master;
+
+use super::item::{Action, Item, Ninth, Turn};
 use super::problem::{Place, Problem};
 
 /// The greatest repeat: a century has 3,155,760,000 seconds.
@@ -21,6 +23,40 @@ pub fn parse(text: &str) -> Result<Vec<Item>, Problem> {
         }
     }
     Ok(items)
+}
+
+/// The turns of a text, or the first problem in it.
+pub fn parse_turns(text: &str) -> Result<Vec<Turn>, Problem> {
+    let mut turns: Vec<Turn> = Vec::new();
+    for (index, content) in text.lines().enumerate() {
+        let mut line = Line::new(index + 1, content);
+        while line.skip_to_item() {
+            if let Some(master) = line.master() {
+                turns.push(Turn {
+                    master,
+                    items: Vec::new(),
+                    words: String::new(),
+                });
+                continue;
+            }
+            let begin = line.next;
+            let item = line.item()?;
+            let Some(turn) = turns.last_mut() else {
+                let advice = "write a: or b: before it";
+                return Err(Problem::new(
+                    line.since(begin),
+                    "no master plays this",
+                    advice,
+                ));
+            };
+            turn.items.push(item);
+            if !turn.words.is_empty() {
+                turn.words.push(' ');
+            }
+            turn.words.extend(&line.signs[begin..line.next]);
+        }
+    }
+    Ok(turns)
 }
 
 /// One line, read from left to right.
@@ -70,6 +106,24 @@ impl Line {
             self.next += 1;
         }
         false
+    }
+
+    /// The master whose turn begins here, `a:` or `b:`. With a number after it, it would be a repeat.
+    fn master(&mut self) -> Option<Master> {
+        let master = match self.signs[self.next..] {
+            ['a', ':', ..] => Master::Rig,
+            ['b', ':', ..] => Master::Handheld,
+            _ => return None,
+        };
+        if self
+            .signs
+            .get(self.next + 2)
+            .is_some_and(|sign| sign.is_ascii_digit())
+        {
+            return None;
+        }
+        self.next += 2;
+        Some(master)
     }
 
     /// An item: an action and its repeat.
@@ -264,6 +318,33 @@ mod tests {
         assert_eq!(parse("# [ A0\n// ]\n \t\r\n").unwrap(), []);
         assert_eq!(parse("t# t\nt//t").unwrap().len(), 2);
         assert_eq!(parse("\u{FEFF}t").unwrap().len(), 1);
+    }
+
+    #[test]
+    fn turns_of_two_masters() {
+        let turns = parse_turns("a: [ A0 # begins\n b:t*60 a:]\nb:").unwrap();
+        let masters: Vec<Master> = turns.iter().map(|turn| turn.master).collect();
+        assert_eq!(
+            masters,
+            [Master::Rig, Master::Handheld, Master::Rig, Master::Handheld]
+        );
+        let words: Vec<&str> = turns.iter().map(|turn| turn.words.as_str()).collect();
+        assert_eq!(words, ["[ A0", "t*60", "]", ""]);
+        assert_eq!(turns[1].items[0].times, 60);
+        assert_eq!(parse_turns("# none\n").unwrap(), []);
+    }
+
+    #[test]
+    fn problems_of_turns() {
+        let place = |text: &str| {
+            let problem = parse_turns(text).expect_err(text);
+            (problem.place.column, problem.message)
+        };
+        assert_eq!(place("[ A0 ]"), (1, "no master plays this".to_string()));
+        assert_eq!(place("a: a:8"), (4, "a is not one byte".to_string()));
+        assert_eq!(place("a: c: ]"), (4, "c is not one byte".to_string()));
+        // In a script of one master there are no turns.
+        assert_eq!(problem("a: [ ]").3, "a is not one byte");
     }
 
     #[test]

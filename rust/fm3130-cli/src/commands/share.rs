@@ -1,0 +1,53 @@
+// SPDX-License-Identifier: Apache-2.0
+//! `fm3130 share`: two masters play a script on one device.
+
+use std::ffi::OsString;
+use std::path::{Path, PathBuf};
+
+use fm3130::Device;
+
+use crate::arguments::{wrong, Arguments, Options};
+use crate::failure::Outcome;
+use crate::files::{self, NamedFile, Replacement};
+use crate::output::Output;
+use crate::{script, sharing};
+
+const OPTIONS: Options = Options {
+    with_value: &["--svg"],
+    alone: &["--quiet"],
+};
+
+/// Plays a script of two masters on a fresh device.
+pub fn command(words: Vec<OsString>) -> Outcome {
+    let arguments = Arguments::sort(words, &OPTIONS)?;
+    arguments.at_most(1)?;
+    let Some(path) = arguments.plain.first().map(PathBuf::from) else {
+        return Err(wrong("share needs a SCRIPT"));
+    };
+    let svg = arguments.path("--svg");
+    if let Some(svg) = &svg {
+        must_differ(&path, svg)?;
+    }
+    let turns = script::load_turns(&path)?;
+    let mut picture = svg.map(|path| Replacement::open(&path)).transpose()?;
+    let mut output = Output::new();
+    let listens = (!arguments.has("--quiet")).then_some(&mut output);
+    let played = sharing::play(Device::fresh(), &turns, listens)?;
+    output.finish()?;
+    if let Some(file) = &mut picture {
+        let title = path
+            .file_name()
+            .map_or("standard input".into(), |name| name.to_string_lossy());
+        file.write(sharing::picture_of(&title, &played).as_bytes())?;
+    }
+    files::commit_all(picture.into_iter().collect())
+}
+
+/// Refuses a command line in which script and picture are one file.
+fn must_differ(script: &Path, svg: &Path) -> Outcome {
+    if script == Path::new("-") {
+        return Ok(());
+    }
+    let named = |option, path| NamedFile { option, path };
+    files::must_differ(&[named("SCRIPT", script), named("--svg", svg)])
+}

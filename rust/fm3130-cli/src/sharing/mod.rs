@@ -1,0 +1,140 @@
+// SPDX-License-Identifier: Apache-2.0
+//! Two masters play a script in turns: each turn asks for the bus and is one call.
+//!
+//! The device and who holds its bus are the proved archive's, behind the two handles of
+//! [`fm3130::masters`]. What is printed of an answered turn is the transcript of the same events on
+//! a copy of the device.
+
+mod picture;
+
+use fm3130::masters::{self, Handle, Master};
+use fm3130::{event, Device, Refusal};
+
+use crate::bus::{self, Grouping, Outputs};
+use crate::failure::{Failure, Outcome};
+use crate::output::Output;
+use crate::script::{Plan, Turn};
+use crate::source::PlanSource;
+use crate::transcript::Transcript;
+use crate::words;
+
+pub use picture::picture_of;
+
+/// The most events of a turn: it is one call, so all of them are in memory at once.
+const MOST_EVENTS: u64 = 1_000_000;
+
+/// What came of a turn.
+pub struct Played {
+    /// Who played it.
+    pub master: Master,
+    /// What was played, as the script has it.
+    pub words: String,
+    /// Whether it was answered.
+    pub answered: Result<(), Refusal>,
+    /// Who held the bus while it was played: after the ask.
+    pub during: Option<Master>,
+    /// Who holds the bus after it.
+    pub after: Option<Master>,
+}
+
+/// The letter of a master in a script.
+pub fn letter(master: Master) -> &'static str {
+    match master {
+        Master::Rig => "a",
+        Master::Handheld => "b",
+    }
+}
+
+/// Plays all turns on a device; says what happened where somebody listens.
+pub fn play(
+    device: Device,
+    turns: &[Turn],
+    mut output: Option<&mut Output>,
+) -> Outcome<Vec<Played>> {
+    let (rig, handheld) = masters::share(device);
+    let mut all = Vec::new();
+    for turn in turns {
+        let handle = match turn.master {
+            Master::Rig => &rig,
+            Master::Handheld => &handheld,
+        };
+        let plan = Plan::of(&turn.items);
+        let before = handle.device();
+        let played = play_turn(handle, turn, &plan)?;
+        if let Some(output) = output.as_deref_mut() {
+            say(&played, before, plan, output)?;
+        }
+        all.push(played);
+    }
+    if let Some(output) = output {
+        output.line("")?;
+        for line in words::of_device(&rig.device()) {
+            output.line(&line)?;
+        }
+        output.line(&format!("Held by    {}", held_by(rig.holder())))?;
+    }
+    Ok(all)
+}
+
+/// Asks for the bus, where the turn has Starts, Stops or Clocks, and calls.
+fn play_turn(handle: &Handle, turn: &Turn, plan: &Plan) -> Outcome<Played> {
+    let events = events_of(plan)?;
+    let needs_bus = events.iter().any(|event| *event <= event::CLOCK_HIGH);
+    let asked = if needs_bus { handle.ask() } else { Ok(()) };
+    let during = handle.holder();
+    let answered = asked.and_then(|()| handle.call(&events).map(|_| ()));
+    Ok(Played {
+        master: turn.master,
+        words: turn.words.clone(),
+        answered,
+        during,
+        after: handle.holder(),
+    })
+}
+
+/// The events of a turn, as one list.
+fn events_of(plan: &Plan) -> Outcome<Vec<u8>> {
+    if plan.total() > MOST_EVENTS {
+        let words = format!(
+            "a turn has {} events; it may have {MOST_EVENTS}",
+            plan.total()
+        );
+        return Err(Failure::Script(words));
+    }
+    let steps = plan.steps.iter();
+    Ok(steps
+        .flat_map(|step| step.events.repeat(step.times as usize))
+        .collect())
+}
+
+/// A turn in words: who plays, what happened on the wires or why nothing did, and who holds the bus.
+fn say(played: &Played, mut before: Device, plan: Plan, output: &mut Output) -> Outcome {
+    let who = format!("{}: {}", letter(played.master), played.master);
+    match played.answered {
+        Err(refusal) => {
+            let holder = held_by(played.after);
+            return output.line(&format!("{who}, refused: {refusal}; held by {holder}"));
+        }
+        Ok(()) => output.line(&who)?,
+    }
+    let state = before.state();
+    let mut transcript = Transcript::new(output);
+    let mut grouping = Grouping::new(vec![&mut transcript], &state, None);
+    let mut outputs = Outputs {
+        observers: vec![&mut grouping],
+        prints: true,
+        answers: None,
+        recording: None,
+        lamps: None,
+    };
+    bus::play(&mut before, &mut PlanSource::new(plan), &mut outputs)?;
+    output.line(&format!("        bus: {}", held_by(played.after)))
+}
+
+/// Who holds the bus, in words.
+pub fn held_by(holder: Option<Master>) -> String {
+    match holder {
+        None => "nobody".to_string(),
+        Some(master) => format!("{} ({master})", letter(master)),
+    }
+}
