@@ -112,6 +112,20 @@ mod foreign {
             record: *mut u8,
             record_length: u64,
         ) -> Shown;
+        pub fn fm3130_ask(bus: *mut u8, bus_length: u64, master: u64) -> u64;
+        pub fn fm3130_call(
+            bus: *mut u8,
+            bus_length: u64,
+            master: u64,
+            image: *mut u8,
+            image_length: u64,
+            memory: *mut u8,
+            memory_length: u64,
+            events: *const u8,
+            events_length: u64,
+            answers: *mut u8,
+            answers_length: u64,
+        ) -> Ran;
         pub fn fm3130_trim_check(error: i32, sign: u64, code: u64) -> u64;
         pub fn fm3130_trim_residue(error: i32, sign: u64, code: u64) -> i32;
         pub fn fm3130_trim_propose(error: i32) -> u64;
@@ -278,6 +292,39 @@ pub fn read_told(count: u64, answers: &[u8], bytes: &mut [u8]) -> Filled {
 pub fn judge(file: &[u8]) -> Judgement {
     // SAFETY: a slice of Rust's is non-null and only read, and its length is its own.
     unsafe { foreign::fm3130_judge(file.as_ptr(), file.len() as u64) }
+}
+
+/// A master asks for the bus; the number.
+pub fn ask(bus: &mut [u8], master: u64) -> u64 {
+    // SAFETY: a slice of Rust's is non-null, and its length is its own.
+    unsafe { foreign::fm3130_ask(bus.as_mut_ptr(), bus.len() as u64, master) }
+}
+
+/// A master's call of the list run.
+pub fn call(
+    bus: &mut [u8],
+    master: u64,
+    image: &mut [u8],
+    memory: &mut [u8],
+    events: &[u8],
+    answers: &mut [u8],
+) -> Ran {
+    // SAFETY: five slices of Rust's are non-null and do not overlap, and their lengths are their own.
+    unsafe {
+        foreign::fm3130_call(
+            bus.as_mut_ptr(),
+            bus.len() as u64,
+            master,
+            image.as_mut_ptr(),
+            image.len() as u64,
+            memory.as_mut_ptr(),
+            memory.len() as u64,
+            events.as_ptr(),
+            events.len() as u64,
+            answers.as_mut_ptr(),
+            answers.len() as u64,
+        )
+    }
 }
 
 /// The verdict on a trim setting, by its number.
