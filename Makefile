@@ -37,7 +37,8 @@ pkg_config = sed -e 's|@INCLUDE@|$(1)|' -e 's|@LIB@|$(2)|' -e 's|@VERSION@|$(VER
 # How long `make fuzz` runs.
 SECONDS := 600
 
-.PHONY: help test check demo lib archives install host ctest second compare edits all-edits bench fuzz fmt fmt-check setup clean
+.PHONY: help test check demo lib archives install host ctest second compare edits all-edits web web-test bench fuzz fmt \
+	fmt-check setup clean
 
 help: ## list these targets
 	@awk -F':.*## ' '/^[a-z-]+:.*## / { printf "make %-10s %s\n", $$1, $$2 }' Makefile
@@ -109,6 +110,20 @@ edits: lib ## docs/EDITS.md, from what the prover last said of each edit (rt mus
 # More than an hour on two cores, so `make test` tries those of crates/*/must-fail alone.
 all-edits: ## try every edit, the further ones of edits/ too
 	@tools/all-edits.sh
+
+web: lib ## the device for browsers and Node: build/web, with one page that needs no other file, fm3130.html
+	@tools/setup.sh node
+	@tools/web-module.sh build/web/fm3130.wasm $(ARCHIVES)
+	@cp web/fm3130.mjs build/web/fm3130.mjs
+	@node tools/web-page.mjs build/web/fm3130.wasm build/web/fm3130.html
+	@ls -l build/web | awk 'NF > 8 { printf "build/web/%s: %d bytes\n", $$9, $$5 }'
+
+# Not part of `make test`: it needs a browser.
+web-test: web ## the tests of the module, of the page beside the command, and of the page in a headless browser
+	@tools/setup.sh web
+	@cargo build --offline --release --quiet --package fm3130-cli
+	@node --test tests/web/*.test.mjs
+	@/usr/bin/python3 tests/web/browser.py build/web/fm3130.html build/cargo/release/fm3130 build/web-test
 
 # Neither of the next two is part of `make test`: times differ from machine to machine, and a search has no end.
 bench: lib ## the proved list run timed beside plain programs; the tables also go to build/bench/SPEED.md

@@ -1,9 +1,9 @@
 #!/bin/sh
 # SPDX-License-Identifier: Apache-2.0
-# setup.sh [bench|fuzz]: sees that all that `make test` needs is on this Debian machine, and installs
-# what is missing; with the word bench, also what the measurements need, with the word fuzz, also what
-# the fuzzer needs. It says nothing and needs no network where all is there. The Rattle kit itself is
-# in no package: without `rt` it stops.
+# setup.sh [bench|fuzz|node|web]: sees that all that `make test` needs is on this Debian machine, and
+# installs what is missing; with a word also what the measurements, the fuzzer, the page (node) or its
+# tests in a browser (web) need. It says nothing and needs no network where all is there. The Rattle kit
+# itself is in no package: without `rt` it stops.
 set -eu
 
 fail() { printf 'setup: %s\n' "$*" >&2; exit 1; }
@@ -28,6 +28,11 @@ need_fuzzer() { # PACKAGE
         clang -x c -fsanitize=fuzzer,address,undefined -o /dev/null - 2>/dev/null || missing="$missing $1"
 }
 
+# Notes PACKAGE as missing unless Debian's own Python has MODULE.
+need_python() { # MODULE PACKAGE
+    /usr/bin/python3 -c "import $1" 2>/dev/null || missing="$missing $2"
+}
+
 need make make
 need cargo cargo
 need rustc rustc
@@ -46,7 +51,14 @@ fuzz)
     need clang clang
     need_fuzzer libclang-rt-14-dev # of Debian 12's clang
     ;;
-*) fail "usage: setup.sh [bench|fuzz]" ;;
+node) need node nodejs ;;
+web)
+    need node nodejs
+    need chromium chromium
+    need chromedriver chromium-driver
+    need_python selenium python3-selenium
+    ;;
+*) fail "usage: setup.sh [bench|fuzz|node|web]" ;;
 esac
 
 [ -n "$missing" ] || exit 0

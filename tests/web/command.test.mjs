@@ -1,0 +1,124 @@
+// SPDX-License-Identifier: Apache-2.0
+/**
+ * The page's words beside the command's: the same scripts go to both, and events, answers, listing, words, drawing,
+ * image and memory must be the same text and bytes.
+ */
+import assert from 'node:assert/strict';
+import { test } from 'node:test';
+
+import { drawingOf } from '../../web/drawing.mjs';
+import { listingOf } from '../../web/listing.mjs';
+import { Player } from '../../web/player.mjs';
+import { eventsOf, planOfText, Problem } from '../../web/script.mjs';
+import { busWords, phase } from '../../web/state.mjs';
+import { lineOf } from '../../web/transcript.mjs';
+import { memoryLines, wordsOfState } from '../../web/words.mjs';
+import { command, Folder, Random, SCRIPTS, standIn } from './support.mjs';
+import { randomScript, wrongScript } from './scripts.mjs';
+
+const RANDOM_SCRIPTS = 300;
+const WRONG_SCRIPTS = 300;
+
+/** Plays a script on a device; also gives the answers, which are asked of a second device. */
+function play(text, device) {
+  const player = new Player(device);
+  player.use(planOfText(text));
+  while (player.someEvents());
+  player.grouping.finish();
+  return player;
+}
+
+/** What `fm3130 run` prints of a played script. */
+function printed(player) {
+  const begins = player.first.phase === phase.IDLE ? [] : [`begins inside: ${busWords(player.first)}`];
+  const lines = [...begins, ...player.happenings.map(lineOf), '', ...wordsOfState(player.state)];
+  return lines.map((line) => `${line}\n`).join('');
+}
+
+/** Gives a script to both; `device` is what it begins with. Returns the device after it. */
+function compare(folder, name, text, device) {
+  const script = folder.write('script.bus', text);
+  const [image, memory] = [folder.write('image', device.image), folder.write('memory', device.memory)];
+  const [answers, svg, events] = ['answers', 'svg', 'events'].map((part) => folder.file(part));
+
+  assert.equal(command('events', script, '-o', events).status, 0, name);
+  const ran = command('run', script, '--image', image, '--memory', memory, '--answers', answers, '--svg', svg);
+  const list = [...eventsOf(planOfText(text))];
+  assert.deepEqual(Buffer.from(list), folder.read('events'), `${name}: events`);
+  assert.deepEqual(Buffer.from(device.clone().run(list).answers), folder.read('answers'), `${name}: answers`);
+  const listed = listingOf(list).map((line) => `${line}\n`).join('');
+  assert.equal(listed, command('events', '--list', events).output, `${name}: listing`);
+
+  const player = play(text, device);
+  assert.equal(printed(player), ran.output, `${name}: words`);
+  assert.equal(drawingOf('script.bus', player.first, player.happenings), folder.read('svg').toString(), `${name}: drawing`);
+  assert.deepEqual(Buffer.from(player.device.image), folder.read('image'), `${name}: image`);
+  assert.deepEqual(Buffer.from(player.device.memory), folder.read('memory'), `${name}: memory`);
+  assert.equal(memoryLines(0, player.device.memory).map((line) => `${line}\n`).join(''),
+    command('view', '--memory', memory).output, `${name}: memory in words`);
+  return player.device;
+}
+
+test('the scripts of scripts/', () => {
+  const folder = new Folder();
+  for (const [name, text] of SCRIPTS) {
+    compare(folder, name, text, standIn.fresh());
+  }
+});
+
+test('random scripts, each on the device that the one before left', () => {
+  const folder = new Folder();
+  let device = standIn.fresh();
+  for (let seed = 1; seed <= RANDOM_SCRIPTS; seed += 1) {
+    const text = randomScript(new Random(seed));
+    device = compare(folder, `seed ${seed}: ${text}`, text, device);
+    if (seed % 20 === 0) {
+      device = standIn.fresh();
+    }
+  }
+});
+
+test('long runs of ticks', () => {
+  const folder = new Folder();
+  const clock = '[ D0 01 00 ] [ D0 00 02 ] [ D0 02 58 59 23 07 30 11 99 ] [ D0 00 00 ] ';
+  const alarm = '[ D0 09 30 80 80 80 80 80 ] [ D0 00 08 ] ';
+  const texts = ['t*59', 't*86400', 't*3000000', 't*65536', 't*65537 [ t*65535 {0} t*131073 ]', 't*70000 t*70000'];
+  for (const text of texts) {
+    compare(folder, text, clock + text, standIn.fresh());
+    compare(folder, `alarm, ${text}`, clock + alarm + text, standIn.fresh());
+  }
+});
+
+test('a century is slept through', () => {
+  const folder = new Folder();
+  const text = '[ D0 01 00 ] [ D0 09 80 80 80 29 02 ] [ D0 0E 80 ] [ D0 00 08 ] t*3155760000 [ D0 00 [ D1 r:15 ]';
+  const { output } = command('run', folder.write('script.bus', text));
+  assert.equal(printed(play(text, standIn.fresh())), output);
+  assert.match(output, /36525 days/);
+});
+
+test('wrong scripts have the same message, place and mark', () => {
+  const folder = new Folder();
+  let wrong = 0;
+  for (let seed = 1; seed <= WRONG_SCRIPTS; seed += 1) {
+    const text = wrongScript(new Random(seed));
+    const path = folder.write('script.bus', text);
+    const { status, errors } = command('events', path, '-o', folder.file('events'));
+    let shown = '';
+    try {
+      planOfText(text);
+    } catch (problem) {
+      assert.ok(problem instanceof Problem, problem);
+      shown = `fm3130: ${problem.shownIn(path, text)}\n`;
+      wrong += 1;
+    }
+    assert.equal(shown, errors, `seed ${seed}: ${JSON.stringify(text)}`);
+    assert.equal(status, shown === '' ? 0 : 3);
+  }
+  assert.ok(wrong > WRONG_SCRIPTS / 2, `only ${wrong} scripts were wrong`);
+});
+
+test('a drawing that is too long stops at the same place', () => {
+  const folder = new Folder();
+  compare(folder, 'long', '[ A0 00 00 FF*4200 ] t lost power', standIn.fresh());
+});
