@@ -5,7 +5,6 @@
 --   SessionAsList         a session is the list of its answered events
 --   Demanded, DemandThreeOfSessions   demand 3 of three sessions
 -- Assumes nothing.
-use Prim.Native.Nat.{ℕ}
 use mathlib.Core.Path.{_≡_}
 use mathlib.Core.List.{List}
 use Rattle.wire.specs.declared.Side.the-variants.{Memory, Companion}

@@ -10,14 +10,12 @@ use mathlib.Core.List.{List, [], _∷_}
 use lib.ListN.{length}
 use Rattle.device.specs.Chip.{memorySize}
 use Rattle.device.specs.Limits.{wellFormed}
-use Rattle.device.specs.Numbers.{accepted}
-use Rattle.device.specs.declared.State.{State}
+use Rattle.device.specs.Numbers.{accepted, notHeld}
 use Rattle.rig.specs.Image.{imageOf}
 use Rattle.handheld.specs.Bus.{mayAsk, masterNumber, holderNumber}
-use Rattle.handheld.specs.Outcome.{notHeld, askOf, callOf}
+use Rattle.handheld.specs.Outcome.{askOf, callOf}
 use Rattle.handheld.specs.declared.Master.{Master}
-use Rattle.handheld.specs.declared.Holder.{Holder}
-use Rattle.assurance.specs.Session.{World, Act, asks, calls, callNumber, afterAct}
+use Rattle.assurance.specs.Session.{World, asks, calls, callNumber, afterAct}
 
 -- Auxiliary: the byte that says who holds the bus.
 abbrev pub busByte : World → List ℕ

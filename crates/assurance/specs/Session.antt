@@ -10,14 +10,13 @@
 --   neithers, ownIn, ownOf                  the events of one master, with those that belong to neither
 -- Assumes nothing.
 use Prim.Native.Nat.{ℕ}
-use mathlib.Core.Bool.{Bool, true, false, cond, _&&_}
+use mathlib.Core.Bool.{Bool, cond, _&&_}
 use mathlib.Core.List.{List, [], _∷_, _++_}
-use Rattle.device.specs.Numbers.{accepted, unknownEvent}
+use Rattle.device.specs.Numbers.{accepted, unknownEvent, notHeld}
 use Rattle.device.specs.Event.{happening}
 use Rattle.device.specs.declared.State.{State}
 use Rattle.rig.specs.Run.{Ended, following, runOf, allKnown}
 use Rattle.handheld.specs.Bus.{sameMaster, afterAsk, isBus, mayCall, holderAfter}
-use Rattle.handheld.specs.Outcome.{notHeld}
 use Rattle.handheld.specs.declared.Master.{Master}
 use Rattle.handheld.specs.declared.Holder.{Holder}
 use Rattle.handheld.specs.declared.Holder.the-variants.{Nobody}

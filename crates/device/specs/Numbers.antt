@@ -1,5 +1,5 @@
 -- SPDX-License-Identifier: Apache-2.0
--- The numbers of 01's table (01, Entries and refusal numbers), each in the words of its line.
+-- The numbers of 01's table (01, Entries and refusal numbers), each in the words of its line, and those of 02.
 -- Assumes nothing.
 use Prim.Native.Nat.{ℕ}
 
@@ -30,3 +30,12 @@ unknownSelector = 5
 -- "viewer: start + length (exact sum) passes the end of the chosen bytes"
 abbrev pub pastTheEnd : ℕ
 pastTheEnd = 6
+
+-- 02, number 8: "an ask while the other holds it, or a call with any event 0 to 3 by a master that does not hold it as the
+-- call begins, is refused with a new number 7"
+abbrev pub notHeld : ℕ
+notHeld = 7
+
+-- 02, number 7: "a larger n is refused by number 8"
+abbrev pub tooManyTicks : ℕ
+tooManyTicks = 8

@@ -1,5 +1,6 @@
 // SPDX-License-Identifier: Apache-2.0
-// The numbers of 01's table, each given exactly when its line says; all entries take them from here.
+// The numbers of 01's table, each given exactly when its line says, and after them those of 02's requests; all entries
+// take them from here.
 
 // none below
 pub const ACCEPTED: u8 = 0;
@@ -15,3 +16,8 @@ pub const SHORT_ANSWERS: u8 = 4;
 pub const UNKNOWN_SELECTOR: u8 = 5;
 // viewer: start + length passes the end of the chosen bytes
 pub const PAST_THE_END: u8 = 6;
+// two masters (02, number 8): an ask while the other holds the bus, or a call with an event 0 to 3 by a master that does
+// not hold it
+pub const NOT_HELD: u8 = 7;
+// catching up (02, number 7): more ticks than a leap year has
+pub const TOO_MANY_TICKS: u8 = 8;

@@ -4,23 +4,23 @@
 -- Assumes nothing.
 use Prim.Native.Nat.{ℕ, _≤_, _<_}
 use mathlib.Core.Path.{_≡_, refl, sym, ap, _∙_}
-use mathlib.Core.Bool.{Bool, true, false, cond, _&&_, true≢false, false≢true}
+use mathlib.Core.Bool.{Bool, true, false, false≢true}
 use mathlib.Core.List.{List, [], _∷_}
 use native.Mathlib.Omega.{arith}
-use lib.Dec.{leb, eqb}
+use lib.Dec.{eqb}
 use lib.ListN.{length, getD, set}
 use borrow.Author.Tests.{eq-eqb, ne-eqb, eqb-true, le-leb, lt-leb}
 use Rattle.wire.proofs.Tests.{by-test, and-split}
-use Rattle.device.specs.Numbers.{accepted, wrongMemory, wrongState, unknownEvent, shortAnswers}
+use Rattle.device.specs.Numbers.{accepted, wrongMemory, wrongState, unknownEvent, shortAnswers, notHeld}
 use Rattle.device.specs.Chip.{memorySize}
 use Rattle.device.specs.declared.State.{State}
 use Rattle.rig.specs.Image.{imageOf, decodeOf}
-use Rattle.rig.specs.Run.{RanThrough, allKnown, refused, outcomeWith, outcomeOf}
+use Rattle.rig.specs.Run.{RanThrough, allKnown, outcomeWith, outcomeOf}
 use Rattle.rig.specs.declared.Ran.{Ran}
 use Rattle.rig.specs.declared.Decoded.the-variants.{Good, Bad}
 use Rattle.rig.proofs.Runs.{outcome-short-answers, outcome-written, outcome-done}
-use Rattle.handheld.specs.Bus.{mayAsk, mayCall, frees, masterNumber, holderOf, masterOf, isKnown, standingOf}
-use Rattle.handheld.specs.Outcome.{notHeld, askOf, AskSettled, refusedCall, ranCall, busAfter, callOf, CallSettled}
+use Rattle.handheld.specs.Bus.{mayAsk, mayCall, masterNumber, holderOf, masterOf, isKnown, standingOf}
+use Rattle.handheld.specs.Outcome.{askOf, AskSettled, refusedCall, ranCall, busAfter, callOf, CallSettled}
 use Rattle.handheld.specs.declared.Master.{Master}
 use Rattle.handheld.specs.declared.Holder.{Holder}
 use Rattle.handheld.specs.declared.Standing.{Standing}

@@ -11,7 +11,7 @@ use mathlib.Core.Bool.{Bool, true, false, cond}
 use mathlib.Core.List.{List, [], _∷_}
 use lib.Dec.{eqb}
 use lib.ListN.{length}
-use Rattle.device.specs.Numbers.{accepted, wrongMemory, wrongState, unknownEvent}
+use Rattle.device.specs.Numbers.{accepted, wrongMemory, wrongState, unknownEvent, notHeld}
 use Rattle.device.specs.Chip.{memorySize}
 use Rattle.rig.specs.Image.{decodeOf}
 use Rattle.rig.specs.Run.{Outcome, refused, outcomeOf, outcomeWith, allKnown}
@@ -21,10 +21,6 @@ use Rattle.rig.specs.declared.Decoded.the-variants.{Good, Bad}
 use Rattle.handheld.specs.Bus.{mayAsk, mayCall, masterNumber, standingOf, busFreed}
 use Rattle.handheld.specs.declared.Standing.{Standing}
 use Rattle.handheld.specs.declared.Standing.the-variants.{Known, Unknown}
-
--- "A new number 7."
-abbrev pub notHeld : ℕ
-notHeld = 7
 
 -- What a caller can see of an ask: its number, and the lent byte.
 pub record AskOutcome : Type 0 where

@@ -10,6 +10,7 @@ use crate::bus::may_ask;
 use crate::bus::may_call;
 use crate::bus::standing;
 use device::numbers::ACCEPTED;
+use device::numbers::NOT_HELD;
 use device::numbers::SHORT_ANSWERS;
 use device::numbers::UNKNOWN_EVENT;
 use device::numbers::WRONG_MEMORY;
@@ -22,9 +23,6 @@ use rig::run::MEMORY;
 use rig::run::all_known;
 use rig::run::refuse;
 use rig::run::run_events;
-
-// The bus is not this master's: an ask while the other holds it, or a bus event by a master that does not hold it.
-pub const NOT_HELD: u8 = 7;
 
 // A master asks for the bus: it is refused, with nothing changed, or holds it.
 #[no_mangle]

@@ -2,16 +2,16 @@
 -- The ways through the entry's tests, and that no second outcome satisfies its contract.
 -- Assumes nothing.
 use Prim.Native.Nat.{ℕ, _≤_, _<_}
-use mathlib.Core.Path.{_≡_, ap, sym, _∙_}
+use mathlib.Core.Path.{_≡_, sym, _∙_}
 use mathlib.Core.List.{List}
 use borrow.Author.Tests.{le-leb, lt-leb}
 use Rattle.days.specs.After.{mostTicks}
-use Rattle.device.specs.Numbers.{accepted, wrongState}
+use Rattle.device.specs.Numbers.{accepted, wrongState, tooManyTicks}
 use Rattle.device.specs.declared.State.{State}
 use Rattle.rig.specs.Image.{imageOf, decodeOf}
 use Rattle.rig.specs.Fresh.{Made}
 use Rattle.rig.specs.declared.Decoded.the-variants.{Good, Bad}
-use Rattle.sleep.specs.CatchUp.{tooManyTicks, caughtUp, catchUpOf, CatchUpSettled}
+use Rattle.sleep.specs.CatchUp.{caughtUp, catchUpOf, CatchUpSettled}
 
 abbrev pub made : ℕ → List ℕ → Made
 made number image = record { number = number; image = image }

@@ -1,6 +1,5 @@
 -- SPDX-License-Identifier: Apache-2.0
 -- Catching up (02, number 7): many ticks on a state's image in one call. `CatchUpSettled` is the entry's whole outcome.
---   tooManyTicks         its own number, after 01's
 --   ticks, caughtUp      n events of byte 4; the state that they lead to as a list
 --   caughtOn, catchUpOf  the tests in the order of the numbers
 --   CatchUpSettled       the entry's contract
@@ -12,17 +11,13 @@ use mathlib.Core.List.{List, []}
 use lib.Dec.{leb}
 use lib.ListN.{replicate}
 use Rattle.days.specs.After.{mostTicks}
-use Rattle.device.specs.Numbers.{accepted, wrongState}
+use Rattle.device.specs.Numbers.{accepted, wrongState, tooManyTicks}
 use Rattle.device.specs.declared.State.{State}
 use Rattle.rig.specs.Image.{imageOf, decodeOf}
 use Rattle.rig.specs.Run.{runOf}
 use Rattle.rig.specs.Fresh.{Made}
 use Rattle.rig.specs.declared.Decoded.{Decoded}
 use Rattle.rig.specs.declared.Decoded.the-variants.{Good, Bad}
-
--- "A larger n is refused by number 8."
-abbrev pub tooManyTicks : ℕ
-tooManyTicks = 8
 
 -- 01, Event bytes and answer bytes: "4 one-second tick": n of them.
 abbrev pub ticks : ℕ → List ℕ

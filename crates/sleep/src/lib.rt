@@ -9,6 +9,7 @@ ghost use mathlib.Core.Path.{_≡_};
 ghost use Rattle.sleep.specs.CatchUp.{CatchUpSettled};
 use crate::ticks::state_caught_up;
 use device::numbers::ACCEPTED;
+use device::numbers::TOO_MANY_TICKS;
 use device::numbers::WRONG_STATE;
 use rig::Decoded;
 use rig::image::decode;
@@ -16,9 +17,6 @@ use rig::image::write_image;
 
 mod search;
 pub mod ticks;
-
-// The number of a refusal after those of 01's table: more ticks than a leap year has.
-pub const TOO_MANY_TICKS: u8 = 8;
 
 // The ticks of a leap year.
 pub const MOST_TICKS: u64 = 31622400;
