@@ -1,11 +1,12 @@
 -- SPDX-License-Identifier: Apache-2.0
--- The bits of a report: it is a sum of eight weights, each taken once or not at all.
+-- The bits of a report: bit k is lamp k's, since a report is the number that its eight lamps write, the first one lowest.
 -- Assumes nothing.
 use Prim.Native.Nat.{ℕ, zero, suc, _+_, _*_, _/_, _%_, _^_, _≤_, _<_}
 use mathlib.Core.Path.{_≡_, refl, sym, ap, _∙_}
 use mathlib.Core.Bool.{Bool, true, false, cond}
 use mathlib.Core.List.{List, [], _∷_}
 use native.Mathlib.Omega.{arith}
+use native.Mathlib.Nat.{pow-succ', div-div-eq-div-mul, zero-div}
 use Rattle.lamps.specs.Step.{bit, lampsByte}
 use Rattle.lamps.specs.Lit.{isLit}
 use Rattle.lamps.specs.Statement.{deserved, logged}
@@ -24,88 +25,50 @@ weighed : (b : Bool) (w : ℕ) → bit b w ≡ w * one b
 weighed true w = omega arith
 weighed false w = omega arith
 
-module _ (a b c d e f g h : Bool) where
-  abbrev sum : ℕ
-  sum = one a + 2 * one b + 4 * one c + 8 * one d + 16 * one e + 32 * one f + 64 * one g + 128 * one h
+-- the number that a list of bits writes, the first one lowest, and the bit at a place
+abbrev numberOf : List Bool → ℕ
+numberOf [] = 0
+numberOf (b ∷ bs) = one b + 2 * numberOf bs
 
-  summed : lampsByte a b c d e f g h ≡ sum
-  summed =
-      let x₀ = weighed a 1 in let x₁ = weighed b 2 in let x₂ = weighed c 4 in let x₃ = weighed d 8 in
-      let x₄ = weighed e 16 in let x₅ = weighed f 32 in let x₆ = weighed g 64 in let x₇ = weighed h 128 in omega arith
+abbrev bitOf : List Bool → ℕ → ℕ
+bitOf [] k = 0
+bitOf (b ∷ bs) zero = one b
+bitOf (b ∷ bs) (suc k) = bitOf bs k
 
-  bit₀ : sum / 1 % 2 ≡ one a
-  bit₀ =
-      let l₀ = one-le a in let l₁ = one-le b in let l₂ = one-le c in let l₃ = one-le d in
-      let l₄ = one-le e in let l₅ = one-le f in let l₆ = one-le g in let l₇ = one-le h in omega arith
-
-  bit₁ : sum / 2 % 2 ≡ one b
-  bit₁ =
-      let l₀ = one-le a in let l₁ = one-le b in let l₂ = one-le c in let l₃ = one-le d in
-      let l₄ = one-le e in let l₅ = one-le f in let l₆ = one-le g in let l₇ = one-le h in omega arith
-
-  bit₂ : sum / 4 % 2 ≡ one c
-  bit₂ =
-      let l₀ = one-le a in let l₁ = one-le b in let l₂ = one-le c in let l₃ = one-le d in
-      let l₄ = one-le e in let l₅ = one-le f in let l₆ = one-le g in let l₇ = one-le h in omega arith
-
-  bit₃ : sum / 8 % 2 ≡ one d
-  bit₃ =
-      let l₀ = one-le a in let l₁ = one-le b in let l₂ = one-le c in let l₃ = one-le d in
-      let l₄ = one-le e in let l₅ = one-le f in let l₆ = one-le g in let l₇ = one-le h in omega arith
-
-  bit₄ : sum / 16 % 2 ≡ one e
-  bit₄ =
-      let l₀ = one-le a in let l₁ = one-le b in let l₂ = one-le c in let l₃ = one-le d in
-      let l₄ = one-le e in let l₅ = one-le f in let l₆ = one-le g in let l₇ = one-le h in omega arith
-
-  bit₅ : sum / 32 % 2 ≡ one f
-  bit₅ =
-      let l₀ = one-le a in let l₁ = one-le b in let l₂ = one-le c in let l₃ = one-le d in
-      let l₄ = one-le e in let l₅ = one-le f in let l₆ = one-le g in let l₇ = one-le h in omega arith
-
-  bit₆ : sum / 64 % 2 ≡ one g
-  bit₆ =
-      let l₀ = one-le a in let l₁ = one-le b in let l₂ = one-le c in let l₃ = one-le d in
-      let l₄ = one-le e in let l₅ = one-le f in let l₆ = one-le g in let l₇ = one-le h in omega arith
-
-  bit₇ : sum / 128 % 2 ≡ one h
-  bit₇ =
-      let l₀ = one-le a in let l₁ = one-le b in let l₂ = one-le c in let l₃ = one-le d in
-      let l₄ = one-le e in let l₅ = one-le f in let l₆ = one-le g in let l₇ = one-le h in omega arith
+bit-at : (bs : List Bool) (k : ℕ) → numberOf bs / 2 ^ k % 2 ≡ bitOf bs k
+bit-at [] k = ap (λ (n : ℕ). n % 2) (zero-div (2 ^ k))
+bit-at (b ∷ bs) zero = let l = one-le b in omega arith
+bit-at (b ∷ bs) (suc k) =
+    let l = one-le b in
+    let half : (one b + 2 * numberOf bs) / 2 ≡ numberOf bs = omega arith in
+    ap (λ (w : ℕ). (one b + 2 * numberOf bs) / w % 2) (pow-succ' 2 k)
+    ∙ ap (λ (n : ℕ). n % 2) (sym (div-div-eq-div-mul (one b + 2 * numberOf bs) 2 (2 ^ k)))
+    ∙ ap (λ (n : ℕ). n / 2 ^ k % 2) half
+    ∙ bit-at bs k
 
 module _ (l : List Mark) where
-  abbrev Lamp : ℕ → Type 0
-  Lamp k = deserved l / 2 ^ k % 2 ≡ one (isLit k l)
+  abbrev lit : List Bool
+  lit = isLit 0 l ∷ isLit 1 l ∷ isLit 2 l ∷ isLit 3 l ∷ isLit 4 l ∷ isLit 5 l ∷ isLit 6 l ∷ isLit 7 l ∷ []
 
-  abbrev total : deserved l ≡ sum (isLit 0 l) (isLit 1 l) (isLit 2 l) (isLit 3 l) (isLit 4 l) (isLit 5 l) (isLit 6 l) (isLit 7 l)
-  total = summed (isLit 0 l) (isLit 1 l) (isLit 2 l) (isLit 3 l) (isLit 4 l) (isLit 5 l) (isLit 6 l) (isLit 7 l)
+  summed : deserved l ≡ numberOf lit
+  summed =
+      let x₀ = weighed (isLit 0 l) 1 in let x₁ = weighed (isLit 1 l) 2 in let x₂ = weighed (isLit 2 l) 4 in
+      let x₃ = weighed (isLit 3 l) 8 in let x₄ = weighed (isLit 4 l) 16 in let x₅ = weighed (isLit 5 l) 32 in
+      let x₆ = weighed (isLit 6 l) 64 in let x₇ = weighed (isLit 7 l) 128 in omega arith
 
-  lamp-bit : (k : ℕ) → k < 8 → Lamp k
-  lamp-bit zero h =
-      ap (λ (n : ℕ). n / 1 % 2) total
-      ∙ bit₀ (isLit 0 l) (isLit 1 l) (isLit 2 l) (isLit 3 l) (isLit 4 l) (isLit 5 l) (isLit 6 l) (isLit 7 l)
-  lamp-bit (suc zero) h =
-      ap (λ (n : ℕ). n / 2 % 2) total
-      ∙ bit₁ (isLit 0 l) (isLit 1 l) (isLit 2 l) (isLit 3 l) (isLit 4 l) (isLit 5 l) (isLit 6 l) (isLit 7 l)
-  lamp-bit (suc (suc zero)) h =
-      ap (λ (n : ℕ). n / 4 % 2) total
-      ∙ bit₂ (isLit 0 l) (isLit 1 l) (isLit 2 l) (isLit 3 l) (isLit 4 l) (isLit 5 l) (isLit 6 l) (isLit 7 l)
-  lamp-bit (suc (suc (suc zero))) h =
-      ap (λ (n : ℕ). n / 8 % 2) total
-      ∙ bit₃ (isLit 0 l) (isLit 1 l) (isLit 2 l) (isLit 3 l) (isLit 4 l) (isLit 5 l) (isLit 6 l) (isLit 7 l)
-  lamp-bit (suc (suc (suc (suc zero)))) h =
-      ap (λ (n : ℕ). n / 16 % 2) total
-      ∙ bit₄ (isLit 0 l) (isLit 1 l) (isLit 2 l) (isLit 3 l) (isLit 4 l) (isLit 5 l) (isLit 6 l) (isLit 7 l)
-  lamp-bit (suc (suc (suc (suc (suc zero))))) h =
-      ap (λ (n : ℕ). n / 32 % 2) total
-      ∙ bit₅ (isLit 0 l) (isLit 1 l) (isLit 2 l) (isLit 3 l) (isLit 4 l) (isLit 5 l) (isLit 6 l) (isLit 7 l)
-  lamp-bit (suc (suc (suc (suc (suc (suc zero)))))) h =
-      ap (λ (n : ℕ). n / 64 % 2) total
-      ∙ bit₆ (isLit 0 l) (isLit 1 l) (isLit 2 l) (isLit 3 l) (isLit 4 l) (isLit 5 l) (isLit 6 l) (isLit 7 l)
-  lamp-bit (suc (suc (suc (suc (suc (suc (suc zero))))))) h =
-      ap (λ (n : ℕ). n / 128 % 2) total
-      ∙ bit₇ (isLit 0 l) (isLit 1 l) (isLit 2 l) (isLit 3 l) (isLit 4 l) (isLit 5 l) (isLit 6 l) (isLit 7 l)
-  lamp-bit (suc (suc (suc (suc (suc (suc (suc (suc k)))))))) h = absurd (omega arith)
+  lamp-at : (k : ℕ) → k < 8 → bitOf lit k ≡ one (isLit k l)
+  lamp-at zero h = refl
+  lamp-at (suc zero) h = refl
+  lamp-at (suc (suc zero)) h = refl
+  lamp-at (suc (suc (suc zero))) h = refl
+  lamp-at (suc (suc (suc (suc zero)))) h = refl
+  lamp-at (suc (suc (suc (suc (suc zero))))) h = refl
+  lamp-at (suc (suc (suc (suc (suc (suc zero)))))) h = refl
+  lamp-at (suc (suc (suc (suc (suc (suc (suc zero))))))) h = refl
+  lamp-at (suc (suc (suc (suc (suc (suc (suc (suc k)))))))) h = absurd (omega arith)
 
 pub bits : Bits
-bits k s m es i h = ap (λ (n : ℕ). n / 2 ^ k % 2) (proven s m es i) ∙ lamp-bit (logged s m es) k h
+bits k s m es i h =
+    ap (λ (n : ℕ). n / 2 ^ k % 2) (proven s m es i ∙ summed (logged s m es))
+    ∙ bit-at (lit (logged s m es)) k
+    ∙ lamp-at (logged s m es) k h
