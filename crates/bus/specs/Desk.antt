@@ -1,0 +1,70 @@
+-- SPDX-License-Identifier: Apache-2.0
+-- A part by its size and its companion: the memory is the same in all of them.
+--   Desks    what a companion does            partOf   the part, as the bus machine has it
+--   hollow   a companion that only replies: what is left of a part when its companion is taken out
+-- Assumes nothing.
+use Prim.Native.Nat.{ℕ}
+use Rattle.wire.specs.Slave.{slaveNames}
+use Rattle.wire.specs.Clock.{Taken}
+use Rattle.wire.specs.Memory.{Cells, pointed, putByte, byteAt, steppedOn}
+use Rattle.wire.specs.Machine.{Parts}
+use Rattle.bus.specs.declared.Beat.{Beat}
+use Rattle.bus.specs.declared.Reply.{Reply}
+
+pub record Desks : Type 1 where
+  pub Desk : Type 0
+  -- in a transfer: take an address; store a byte; the byte at the address; what a whole byte read does
+  pub aim : Desk → ℕ → Taken Desk
+  pub store : Desk → ℕ → Taken Desk
+  pub load : Desk → ℕ
+  pub loaded : Desk → ℕ → Desk
+  -- ticks and edges; WP1 WP0; bits 3 to 1 of an answer
+  pub ticked : Beat → Desk → Desk
+  pub guard : Desk → ℕ
+  pub pin : Desk → ℕ
+  -- main power lost with backup; both supplies gone; main power back after backup
+  pub backed : Desk → Desk
+  pub lost : Desk → Desk
+  pub returned : Desk → Desk
+
+abbrev pub partOf : ℕ → Desks → Parts
+partOf size D =
+    record {
+      Tick = Beat;
+      Guard = ℕ;
+      Cells = Cells;
+      Desk = D .Desk;
+      Pin = ℕ;
+      names = slaveNames;
+      point = pointed size;
+      put = putByte size;
+      fetch = byteAt;
+      step-on = steppedOn size;
+      aim = D .aim;
+      store = D .store;
+      load = D .load;
+      loaded = D .loaded;
+      ticked = D .ticked;
+      guard = D .guard;
+      pin = D .pin;
+    }
+
+-- Auxiliary: a reply as what taking a byte leaves.
+abbrev pub replied : Reply → Taken (Unit {0})
+replied r = record { next = tt; good = r .good }
+
+abbrev pub hollow : ℕ → Reply → Desks
+hollow g r =
+    record {
+      Desk = Unit {0};
+      aim = λ u b. replied r;
+      store = λ u b. replied r;
+      load = λ u. r .byte;
+      loaded = λ u b. tt;
+      ticked = λ t u. tt;
+      guard = λ u. g;
+      pin = λ u. 0;
+      backed = λ u. tt;
+      lost = λ u. tt;
+      returned = λ u. tt;
+    }
