@@ -15,11 +15,11 @@ use Rattle.wire.proofs.Tests.{by-test}
 use Rattle.companion.specs.Part.{pinOf}
 use Rattle.companion.specs.declared.Companion.{Companion as Desk}
 use Rattle.device.specs.Chip.{memorySize}
-use Rattle.device.specs.Limits.{powerWithin}
 use Rattle.device.specs.Event.{onWire, happening, eventOn, eventOf}
 use Rattle.wire.specs.Machine.{start, lined}
-use Rattle.device.specs.declared.Power.{Power}
-use Rattle.device.specs.declared.Power.the-variants.{On, Backup, Off}
+use Rattle.bus.specs.Limits.{powerWithin}
+use Rattle.bus.specs.declared.Power.{Power}
+use Rattle.bus.specs.declared.Power.the-variants.{On, Backup, Off}
 use Rattle.device.specs.declared.State.{State}
 use Rattle.rig.specs.Run.{Ended, runOf}
 use Rattle.handheld.specs.declared.Master.{Master}

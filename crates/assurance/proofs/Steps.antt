@@ -10,21 +10,22 @@ use native.Mathlib.Omega.{arith}
 use lib.Dec.{leb}
 use lib.ListN.{length, getD}
 use borrow.Author.Tests.{leb-true}
+use Rattle.weights.specs.Weight.{has}
 use Rattle.wire.specs.Memory.{Cells, lent}
 use Rattle.wire.specs.Machine.{Line, start, stop, clock, clocked, lined}
 use Rattle.wire.specs.declared.Side.the-variants.{Memory, Companion}
 use Rattle.wire.specs.declared.Phase.{Phase}
 use Rattle.wire.specs.declared.Phase.the-variants.{Idle, Slave, AddressHigh, AddressLow, Pointer, Write, Read}
 use Rattle.wire.proofs.Tests.{by-test}
-use Rattle.companion.specs.Map.{OSCEN, has}
+use Rattle.bus.specs.Limits.{isIdle, powerWithin}
+use Rattle.bus.specs.declared.Power.{Power}
+use Rattle.bus.specs.declared.Power.the-variants.{On, Backup, Off}
+use Rattle.companion.specs.Map.{OSCEN}
 use Rattle.companion.specs.Change.{withAddress}
 use Rattle.companion.specs.Part.{tickOf, returnedOf}
 use Rattle.companion.specs.declared.Companion.{Companion as Desk}
 use Rattle.device.specs.Chip.{fm3130}
 use Rattle.device.specs.Event.{Happening, onWire, second, lost, gone, returned, happening, eventOn, eventOf}
-use Rattle.device.specs.Limits.{isIdle, powerWithin}
-use Rattle.device.specs.declared.Power.{Power}
-use Rattle.device.specs.declared.Power.the-variants.{On, Backup, Off}
 use Rattle.device.specs.declared.State.{State}
 use Rattle.handheld.specs.Bus.{isBus, freedBy}
 use Rattle.assurance.specs.Same.{ninthOf, marked, ReadSet, Harmless}

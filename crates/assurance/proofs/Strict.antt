@@ -14,12 +14,12 @@ use Rattle.wire.specs.Machine.{Line, start, stop, clock, lined}
 use Rattle.wire.specs.declared.Side.the-variants.{Memory, Companion}
 use Rattle.wire.specs.declared.Phase.{Phase}
 use Rattle.wire.specs.declared.Phase.the-variants.{Idle, Slave, AddressHigh, AddressLow, Pointer, Write, Read}
+use Rattle.bus.specs.declared.Power.{Power}
+use Rattle.bus.specs.declared.Power.the-variants.{On, Backup, Off}
 use Rattle.companion.specs.Part.{pinOf}
 use Rattle.companion.specs.declared.Companion.{Companion as Desk}
 use Rattle.device.specs.Event.{Happening, onWire, second, lost, gone, returned, happening, eventOn, eventOf}
 use Rattle.device.specs.Answer.{pinShown, answerByte}
-use Rattle.device.specs.declared.Power.{Power}
-use Rattle.device.specs.declared.Power.the-variants.{On, Backup, Off}
 use Rattle.device.specs.declared.State.{State}
 use Rattle.rig.specs.Run.{Ended, following, answerTo, runOf}
 use Rattle.assurance.specs.Same.{marked, ReadAt, ReadSet, ninthLow, placedBy, ReadInAt, ReadIn, ReadsIn}

@@ -9,8 +9,8 @@ use mathlib.Core.Path.{_≡_}
 use mathlib.Core.List.{List}
 use Rattle.wire.specs.declared.Side.the-variants.{Memory, Companion}
 use Rattle.wire.specs.declared.Phase.the-variants.{Idle}
+use Rattle.bus.specs.declared.Power.the-variants.{On}
 use Rattle.device.specs.Chip.{fm3130}
-use Rattle.device.specs.declared.Power.the-variants.{On}
 use Rattle.rig.specs.Run.{Ended, runOf}
 use Rattle.isolation.specs.Merge.{eventsOf, picked}
 use Rattle.isolation.specs.Party.{to, isMemory, isCompanion, BusEvent, PartyEvent, Whole}

@@ -1,16 +1,16 @@
 -- SPDX-License-Identifier: Apache-2.0
 -- Every event keeps the limits, over any size and any companion that keeps its own: the bus events by the machine's theorem,
 -- the others by cases on the supply.
---   BusLimits, bus-limits-of, of-bus-limits   the limits of a bus, one by one
+--   BusLimits, bus-limits-of, of-bus-limits   the limits of a bus, one by one; from-zero: addresses from 0 on
 --   DeskKeeps                                 what is asked of a companion
 --   DoneOk, event-keeps                       the theorem
 -- Assumes nothing.
 use Prim.Native.Nat.{ℕ, _+_, _*_, _<_}
 use mathlib.Core.Path.{_≡_, refl, _∙_}
-use mathlib.Core.Bool.{true}
+use mathlib.Core.Bool.{true, _&&_}
 use mathlib.Core.List.{List}
 use native.Mathlib.Nat.{mod-lt}
-use lib.Dec.{ltb}
+use lib.Dec.{ltb, leb, leb·zero}
 use lib.ListN.{length, length-set}
 use borrow.Author.Tests.{ltb-true, lt-ltb}
 use Rattle.wire.specs.Slave.{slaveNames}
@@ -26,6 +26,10 @@ use Rattle.bus.specs.declared.Beat.{Beat}
 use Rattle.bus.specs.declared.Power.{Power}
 use Rattle.bus.specs.declared.Power.the-variants.{On, Backup, Off}
 use Rattle.bus.specs.declared.Bus.{Bus}
+
+-- of a companion whose first address is 0 an address has one limit
+pub from-zero : (last : ℕ) → isBetween 0 last ≡ (λ b. leb b last)
+from-zero last = λ i b. leb·zero b i && leb b last
 
 pub record BusLimits (size first last : ℕ) (u : Bus) : Type 0 where
   pub address : u .address < size

@@ -6,12 +6,13 @@ use Prim.Native.Nat.{ℕ}
 use mathlib.Core.Path.{_≡_, refl}
 use mathlib.Core.Bool.{Bool, true, false, cond}
 use lib.Dec.{leb, eqb}
+use Rattle.weights.specs.Weight.{has}
+use Rattle.weights.proofs.Cases.{by-cond}
 use Rattle.companion.specs.declared.Companion.{Companion}
-use Rattle.companion.specs.Map.{LAST, W, has}
+use Rattle.companion.specs.Map.{LAST, W}
 use Rattle.companion.specs.Change.{withAddress}
 use Rattle.companion.specs.Write.{writtenOf}
 use Rattle.companion.specs.Part.{aimOf, refusedAddress}
-use Rattle.companion.proofs.Cases.{by-cond}
 
 pub written-address : (c : Companion) (b : ℕ) → writtenOf c b .address ≡ c .address
 written-address c b =

@@ -8,9 +8,9 @@ use mathlib.Core.List.{List}
 use mathlib.Core.Logic.{_≢_}
 use lib.ListN.{getD, set}
 use lib.Seq.{getD-set-same, getD-set-other}
+use Rattle.weights.proofs.Cases.{Below, none, _then_, below}
 use Rattle.companion.specs.declared.Registers.{Registers}
 use Rattle.companion.specs.Registers.{registerBytes, registersOf, registerAt, putAt}
-use Rattle.companion.proofs.Cases.{Below, none, _then_, below}
 
 pub registers-of-bytes : (r : Registers) → registersOf (registerBytes r) ≡ r
 registers-of-bytes r = refl

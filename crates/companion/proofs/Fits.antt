@@ -12,11 +12,11 @@ use native.Mathlib.Omega.{arith}
 use lib.Dec.{T, ltb, leb, eqb, lit<, lit≤}
 use lib.ListN.{getD}
 use borrow.Author.Tests.{lt-ltb, ltb-true, eqb-true, eqb-false}
+use Rattle.weights.proofs.Cases.{Below, none, _then_, below}
 use Rattle.calendar.proofs.Width.{Within, within-facts, within-test}
 use Rattle.companion.specs.declared.Registers.{Registers}
 use Rattle.companion.specs.Registers.{registerAt, putAt, topAndBelow, storedAt}
 use Rattle.companion.specs.Limits.{fixedClear}
-use Rattle.companion.proofs.Cases.{Below, none, _then_, below}
 use Rattle.companion.proofs.Bytes.{put-same, put-other}
 use Rattle.companion.proofs.LimitFacts.{RegistersWithin}
 

@@ -1,7 +1,6 @@
 -- SPDX-License-Identifier: Apache-2.0
 -- The companion's laws.
 -- Assumes nothing.
-pub mod Cases
 pub mod Address
 pub mod Bytes
 pub mod Fits

@@ -4,12 +4,13 @@
 -- Assumes nothing.
 use mathlib.Core.Path.{_≡_, refl, sym, _∙_}
 use mathlib.Core.Bool.{Bool, true, false, _||_, not, false≢true}
+use Rattle.weights.specs.Weight.{has}
 use Rattle.calendar.specs.Highest.{changedOf}
 use Rattle.calendar.specs.Next.{isValid}
 use Rattle.calendar.specs.declared.Rolled.the-variants.{Nothing}
 use Rattle.calendar.proofs.Highest.{changed-self, next-rolled, nothing-if-invalid, nothing-only-if-invalid}
 use Rattle.companion.specs.declared.Companion.{Companion}
-use Rattle.companion.specs.Map.{OSCEN, has}
+use Rattle.companion.specs.Map.{OSCEN}
 use Rattle.companion.specs.Part.{tickOf, rolledOf}
 
 module _ (c : Companion) where

@@ -5,12 +5,13 @@
 use Prim.Native.Nat.{ℕ, _≤_}
 use mathlib.Core.Path.{_≡_, refl}
 use lib.Dec.{leb, eqb, lit≤}
+use Rattle.weights.specs.Weight.{has}
+use Rattle.weights.proofs.Cases.{by-cond}
 use Rattle.companion.specs.declared.Companion.{Companion}
 use Rattle.companion.specs.declared.Taken.{Taken}
-use Rattle.companion.specs.Map.{LAST, AEN, CAL, ALSW, OSCEN, has}
+use Rattle.companion.specs.Map.{LAST, AEN, CAL, ALSW, OSCEN}
 use Rattle.companion.specs.Pin.{functionOf}
 use Rattle.companion.specs.Part.{aimOf, loadedOf, tickOf, guardOf}
-use Rattle.companion.proofs.Cases.{by-cond}
 
 pub function-le : (control setup : ℕ) → functionOf control setup ≤ 3
 function-le control setup =

@@ -8,6 +8,8 @@ use mathlib.Core.Path.{_≡_, refl}
 use mathlib.Core.Bool.{true, false}
 use lib.Dec.{leb, eqb}
 use borrow.Author.Tests.{not-false}
+use Rattle.weights.specs.Weight.{has}
+use Rattle.weights.proofs.Cases.{by-cond}
 use Rattle.calendar.specs.declared.Calendar.{Calendar}
 use Rattle.calendar.specs.Field.{inField}
 use Rattle.calendar.specs.Month.{monthLength}
@@ -16,11 +18,10 @@ use Rattle.calendar.proofs.Tests.{true-test, test-true}
 use Rattle.calendar.proofs.Next.{next-valid}
 use Rattle.companion.specs.declared.Companion.{Companion}
 use Rattle.companion.specs.declared.Taken.{Taken}
-use Rattle.companion.specs.Map.{OSCEN, W, has}
+use Rattle.companion.specs.Map.{OSCEN, W}
 use Rattle.companion.specs.Control.{wFalls}
 use Rattle.companion.specs.Write.{writtenOf}
 use Rattle.companion.specs.Part.{aimOf, loadsBadDate, storeOf, loadedOf, tickOf, lostOf, returnedOf}
-use Rattle.companion.proofs.Cases.{by-cond}
 
 abbrev pub CoreValid : Companion → Type 0
 CoreValid c = isValid (c .core) ≡ true

@@ -11,6 +11,8 @@ use native.Mathlib.Nat.{mod-lt}
 use native.Mathlib.Omega.{arith}
 use lib.Dec.{leb, eqb, lit<, lit≤}
 use borrow.Author.Tests.{leb-true, eqb-false}
+use Rattle.weights.specs.Weight.{has}
+use Rattle.weights.proofs.Cases.{by-cond}
 use Rattle.calendar.specs.declared.Calendar.{Calendar}
 use Rattle.calendar.specs.Width as width
 use Rattle.calendar.specs.Next.{nextOf}
@@ -18,7 +20,7 @@ use Rattle.calendar.proofs.Width.{next-within}
 use Rattle.companion.specs.declared.Registers.{Registers}
 use Rattle.companion.specs.declared.Companion.{Companion}
 use Rattle.companion.specs.declared.Taken.{Taken}
-use Rattle.companion.specs.Map.{LAST, OSCEN, CAL, W, R, has}
+use Rattle.companion.specs.Map.{LAST, OSCEN, CAL, W, R}
 use Rattle.companion.specs.Control.{flagsAfter, coreAfter, frozen, followed}
 use Rattle.companion.specs.Change.{withTime, withRegisters, withAddress}
 use Rattle.companion.specs.Write.{coreWritten, controlWritten, trimAfter, trimWritten, byteStored, writtenOf}
@@ -28,7 +30,6 @@ use Rattle.companion.specs.Registers.{putAt}
 use Rattle.companion.specs.Power.{porSet}
 use Rattle.companion.specs.Part.{nextAddress, steppedOf, controlRead, aimOf, loadsBadDate, storeOf, loadedOf}
 use Rattle.companion.specs.Part.{tickOf, backedOf, lostOf, returnedOf, isWithin}
-use Rattle.companion.proofs.Cases.{by-cond}
 use Rattle.companion.proofs.LimitFacts.{RegistersWithin, Within, within-facts, within-test}
 use Rattle.companion.proofs.Fits.{top-fits, put-within}
 

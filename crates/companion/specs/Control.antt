@@ -8,8 +8,9 @@
 -- Assumes nothing.
 use Prim.Native.Nat.{ℕ, _+_, _*_, _/_, _%_}
 use mathlib.Core.Bool.{Bool, cond, not, _&&_, _||_}
+use Rattle.weights.specs.Weight.{has, only}
 use Rattle.calendar.specs.declared.Calendar.{Calendar}
-use Rattle.companion.specs.Map.{LB, AF, CF, POR, W, R, has, only}
+use Rattle.companion.specs.Map.{LB, AF, CF, POR, W, R}
 
 -- Auxiliary: 00h with AF and CF as said, the rest kept.
 abbrev pub flagged : ℕ → Bool → Bool → ℕ

@@ -1,6 +1,6 @@
 -- SPDX-License-Identifier: Apache-2.0
--- The register map: each bit by its weight, in the data sheet's spelling, and the one test of a bit (01, Registers;
--- document 000's register table for 0Eh).
+-- The register map: each bit by its weight, in the data sheet's spelling (01, Registers; document 000's register table for
+-- 0Eh).
 --   CONTROL TRIM YEARS LAST    the addresses that a rule names: 00h RTC/Alarm Control, 01h CAL/Control, 08h RTC Years
 --                              (the last of the calendar's, 02h to 08h), 0Eh Alarm & WP Control (the last of all)
 --   COUNT                      how many registers there are
@@ -8,12 +8,8 @@
 --   OSCEN                      bit 7 of 01h
 --   MATCH                      bit 7 of 09h to 0Dh
 --   ALSW WP0                   bits 7 and 3 of 0Eh; WP1 is the bit above WP0
---   has byte weight            the byte has the bit of that weight
---   only on weight             a bit alone: its weight where it is on, else 0
 -- Assumes nothing.
-use Prim.Native.Nat.{ℕ, _+_, _/_, _%_}
-use mathlib.Core.Bool.{Bool, cond}
-use lib.Dec.{eqb}
+use Prim.Native.Nat.{ℕ, _+_}
 
 -- 01, The part we play: "15 registers 00h to 0Eh".
 abbrev pub CONTROL : ℕ
@@ -71,11 +67,3 @@ ALSW = 128
 
 abbrev pub WP0 : ℕ
 WP0 = 8
-
--- Auxiliary: whether a byte has the bit of a weight, a power of two.
-abbrev pub has : ℕ → ℕ → Bool
-has byte weight = eqb (byte / weight % 2) 1
-
--- Auxiliary: a bit by itself.
-abbrev pub only : Bool → ℕ → ℕ
-only on weight = cond on weight 0

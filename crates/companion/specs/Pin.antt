@@ -9,8 +9,9 @@
 use Prim.Native.Nat.{ℕ, _+_, _/_, _%_}
 use mathlib.Core.Bool.{cond, _&&_}
 use lib.Dec.{eqb}
+use Rattle.weights.specs.Weight.{has, only}
 use Rattle.companion.specs.declared.Companion.{Companion}
-use Rattle.companion.specs.Map.{AF, AEN, CAL, ALSW, WP0, has, only}
+use Rattle.companion.specs.Map.{AF, AEN, CAL, ALSW, WP0}
 
 -- 01, Event bytes and answer bytes: "0 released, 1 alarm, 2 square wave, 3 calibration".
 abbrev pub RELEASED : ℕ

@@ -10,6 +10,7 @@
 use Prim.Native.Nat.{ℕ, _%_}
 use mathlib.Core.Bool.{Bool, cond, _&&_, _||_}
 use lib.Dec.{eqb}
+use Rattle.weights.specs.Weight.{has}
 use Rattle.calendar.specs.Next.{isValid, nextOf}
 use Rattle.calendar.specs.declared.Calendar.{Calendar}
 use Rattle.calendar.specs.declared.Rolled.{Rolled}
@@ -17,7 +18,7 @@ use Rattle.calendar.specs.declared.Rolled.the-variants.{Nothing}
 use Rattle.companion.specs.declared.Alarm.{Alarm}
 use Rattle.companion.specs.declared.Companion.{Companion}
 use Rattle.companion.specs.declared.Ticked.{Ticked}
-use Rattle.companion.specs.Map.{AF, CF, OSCEN, MATCH, has}
+use Rattle.companion.specs.Map.{AF, CF, OSCEN, MATCH}
 use Rattle.companion.specs.Control.{flagged, followed}
 use Rattle.companion.specs.Change.{withTime}
 

@@ -9,9 +9,10 @@
 use Prim.Native.Nat.{ℕ, _+_, _*_, _/_, _%_}
 use mathlib.Core.Bool.{cond}
 use lib.Dec.{leb, eqb}
+use Rattle.weights.specs.Weight.{has}
 use Rattle.calendar.specs.declared.Calendar.{Calendar}
 use Rattle.companion.specs.declared.Companion.{Companion}
-use Rattle.companion.specs.Map.{CONTROL, TRIM, YEARS, CAL, W, has}
+use Rattle.companion.specs.Map.{CONTROL, TRIM, YEARS, CAL, W}
 use Rattle.companion.specs.Registers.{putAt, storedAt}
 use Rattle.companion.specs.Change.{withTime, withRegisters}
 use Rattle.companion.specs.Control.{controlAfter, coreAfter, timeAfter}

@@ -9,9 +9,9 @@ use crate::map::LB;
 use crate::map::POR;
 use crate::map::R;
 use crate::map::W;
-use crate::map::has;
-use crate::map::only;
 use calendar::Calendar;
+use weights::has;
+use weights::only;
 
 // 00h with AF and CF as said, the rest kept.
 pub(crate) fn flagged(control: u8, af: bool, cf: bool) -> u8

@@ -3,7 +3,7 @@
 // knows nothing of buses or memory: a device hands it whole bytes, ticks and power events, and asks it for bytes, the
 // pin and the protection. Every method takes the companion by value and returns the next one.
 //
-//   map.rt       each bit by its weight, and the one test of a bit
+//   map.rt       each bit by its weight
 //   access.rt    the registers by address, and the bits that each stores
 //   change.rt    one part replaced, the rest kept
 //   control.rt   00h: what a write leaves, what a read clears

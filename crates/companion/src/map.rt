@@ -1,8 +1,5 @@
 // SPDX-License-Identifier: Apache-2.0
-// The register map: each bit by its weight, in the data sheet's spelling, and the one test of a bit.
-ghost use mathlib.Core.Path.{_≡_};
-ghost use Prim.Native.Nat.{_<_, _≤_};
-ghost use Rattle.companion.specs.Map.{has, only};
+// The register map: each bit by its weight, in the data sheet's spelling.
 
 // The addresses that a rule names: 00h RTC/Alarm Control, 01h CAL/Control, 08h RTC Years (the last of the
 // calendar's), 0Eh Alarm & WP Control (the last of all); and how many there are.
@@ -43,18 +40,3 @@ pub const MATCH: u8 = 128;
 pub const ALSW: u8 = 128;
 
 pub const WP0: u8 = 8;
-
-// Whether a byte has the bit of a weight.
-pub fn has(byte: u8, weight: u8) -> bool
-    requires { ⌜ 0 < weight ⌝ }
-    ensures { λ r. ⌜ r ≡ has byte weight ⌝ }
-{
-    byte / weight % 2 == 1
-}
-
-// A bit by itself: its weight where it is on, else 0.
-pub(crate) fn only(on: bool, weight: u8) -> u8
-    ensures { λ r. ⌜ (r ≡ only on weight) × (r ≤ weight) ⌝ }
-{
-    if on { weight } else { 0 }
-}

@@ -9,8 +9,8 @@ use crate::map::AF;
 use crate::map::ALSW;
 use crate::map::CAL;
 use crate::map::WP0;
-use crate::map::has;
-use crate::map::only;
+use weights::has;
+use weights::only;
 
 // The functions of the pin.
 const RELEASED: u8 = 0;

@@ -13,9 +13,9 @@ use crate::map::AF;
 use crate::map::CF;
 use crate::map::MATCH;
 use crate::map::OSCEN;
-use crate::map::has;
 use calendar::Calendar;
 use calendar::Rolled;
+use weights::has;
 
 // Whether an alarm field lets a calendar field pass: it has Match, or it is equal.
 fn agrees(alarm: u8, field: u8) -> bool

@@ -15,7 +15,7 @@ use crate::map::CONTROL;
 use crate::map::TRIM;
 use crate::map::W;
 use crate::map::YEARS;
-use crate::map::has;
+use weights::has;
 
 // 01h after a write: OSCEN is taken, bit 6 is 0, the last six bits are taken only with CAL at 1.
 fn trim_after(control: u8, old: u8, byte: u8) -> u8

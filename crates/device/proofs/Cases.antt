@@ -9,21 +9,21 @@ use mathlib.Core.List.{List}
 use native.Mathlib.Omega.{arith}
 use lib.Dec.{eqb}
 use borrow.Author.Tests.{eqb-true, eqb-false, ne-eqb}
+use Rattle.weights.proofs.Cases.{by-cond}
 use Rattle.wire.specs.Memory.{Cells, lent}
 use Rattle.wire.specs.Machine.{clock, out, clocked}
 use Rattle.wire.specs.declared.Phase.{Phase}
 use Rattle.wire.specs.declared.Phase.the-variants.{Idle}
 use Rattle.calendar.specs.declared.Rolled.the-variants.{Nothing}
+use Rattle.bus.specs.declared.Power.{Power}
+use Rattle.bus.specs.declared.Power.the-variants.{On, Backup, Off}
 use Rattle.companion.specs.declared.Companion.{Companion}
-use Rattle.companion.proofs.Cases.{by-cond}
 use Rattle.device.specs.Chip.{fm3130, Done}
 use Rattle.device.specs.Bus.{clockedWith}
 use Rattle.device.specs.Power.{isSupplied}
 use Rattle.device.specs.Event.{Happening, onWire, second, returned, happening, still, ticked, eventOn, eventOf, rolledBy, rolledIn}
 use Rattle.device.specs.Answer.{answerByte}
 use Rattle.device.specs.Step.{HappenedWith, Stills, PassedWith, AnsweredWith, ToldWith}
-use Rattle.device.specs.declared.Power.{Power}
-use Rattle.device.specs.declared.Power.the-variants.{On, Backup, Off}
 use Rattle.device.specs.declared.State.{State}
 use Rattle.device.specs.declared.Happened.{Happened}
 use Rattle.device.specs.declared.Passed.{Passed}

@@ -3,24 +3,32 @@
 -- no second outcome satisfies the contract.
 -- Assumes nothing.
 use Prim.Native.Nat.{ℕ, _≤_, _<_}
-use mathlib.Core.Path.{_≡_, refl, sym, _∙_}
-use mathlib.Core.Bool.{Bool, true, false}
+use mathlib.Core.Path.{_≡_, ap, sym, _∙_}
+use mathlib.Core.Bool.{true, false}
 use mathlib.Core.List.{List}
 use lib.Dec.{ltb}
 use lib.ListN.{length}
 use borrow.Author.Tests.{ltb-true, eq-eqb, ne-eqb, lt-ltb, le-ltb}
 use Rattle.wire.specs.Slave.{slaveNames}
 use Rattle.wire.specs.Limits.{phaseWithin}
-use Rattle.wire.proofs.Tests.{and-split, and-join}
+use Rattle.wire.specs.declared.Phase.{Phase}
+use Rattle.wire.proofs.Tests.{and-split}
+use Rattle.bus.specs.Limits.{isBetween, powerWithin}
+use Rattle.bus.proofs.Keeps.{from-zero}
+use Rattle.companion.specs.Map.{LAST}
 use Rattle.companion.specs.Part.{isWithin}
 use Rattle.companion.proofs.LimitFacts.{within-address}
 use Rattle.device.specs.Numbers.{wrongMemory, wrongState, unknownEvent}
 use Rattle.device.specs.Chip.{memorySize}
 use Rattle.device.specs.Event.{eventOf, rolledIn}
-use Rattle.device.specs.Limits.{isLegal, powerWithin, wellFormed}
+use Rattle.device.specs.Limits.{isLegal, wellFormed}
 use Rattle.device.specs.Step.{Ready, refused, answered, stepOf, StepSettled}
 use Rattle.device.specs.declared.State.{State}
 use Rattle.device.specs.declared.Stepped.{Stepped}
+
+-- the companion's addresses begin at 0
+pub phase-from-zero : (p : Phase) → phaseWithin slaveNames (isBetween 0 LAST) p ≡ phaseWithin slaveNames isLegal p
+phase-from-zero p = ap (λ legal. phaseWithin slaveNames legal p) (from-zero LAST)
 
 -- the limits of a state, one by one
 pub record Limits (s : State) : Type 0 where

@@ -6,12 +6,12 @@ use Prim.Native.Nat.{ℕ}
 use mathlib.Core.List.{List}
 use Rattle.wire.specs.Machine.{line, tick}
 use Rattle.wire.proofs.Desk.{DeskKeeps, step-desk}
+use Rattle.bus.specs.declared.Power.{Power}
+use Rattle.bus.specs.declared.Power.the-variants.{On, Backup, Off}
 use Rattle.companion.proofs.Valid.{CoreValid, aim-valid, store-valid, loaded-valid, tick-valid, lost-valid, returned-valid}
 use Rattle.device.specs.Chip.{fm3130, machineOf}
 use Rattle.device.specs.Power.{fresh}
 use Rattle.device.specs.Event.{Happening, onWire, second, lost, gone, returned, happening, eventOn, eventOf}
-use Rattle.device.specs.declared.Power.{Power}
-use Rattle.device.specs.declared.Power.the-variants.{On, Backup, Off}
 use Rattle.device.specs.declared.State.{State}
 
 fm3130-valid : DeskKeeps fm3130 CoreValid

@@ -17,6 +17,9 @@ use Rattle.wire.specs.Limits.{phaseWithin}
 use Rattle.wire.specs.declared.Phase.the-variants.{Idle}
 use Rattle.wire.proofs.Tests.{by-test}
 use Rattle.wire.proofs.Keeps.{PartKeeps, StateOk, step-keeps}
+use Rattle.bus.specs.Limits.{powerWithin}
+use Rattle.bus.specs.declared.Power.{Power}
+use Rattle.bus.specs.declared.Power.the-variants.{On, Backup, Off}
 use Rattle.companion.specs.Part.{aimOf, lostOf, isWithin}
 use Rattle.companion.specs.declared.Companion.{Companion}
 use Rattle.companion.proofs.Address.{aim-acknowledged}
@@ -25,9 +28,7 @@ use Rattle.device.specs.Chip.{memorySize, fm3130, machineOf, Done, doneO
 use Rattle.device.specs.Bus.{withCompanion}
 use Rattle.device.specs.Power.{poweredWith, fresh}
 use Rattle.device.specs.Event.{Happening, onWire, second, lost, gone, returned, happening, eventOn, eventOf}
-use Rattle.device.specs.Limits.{isLegal, powerWithin, wellFormed}
-use Rattle.device.specs.declared.Power.{Power}
-use Rattle.device.specs.declared.Power.the-variants.{On, Backup, Off}
+use Rattle.device.specs.Limits.{isLegal, wellFormed}
 use Rattle.device.specs.declared.State.{State}
 use Rattle.device.proofs.Entry.{Limits, limits-of, of-limits}
 

@@ -10,10 +10,10 @@ use Rattle.wire.specs.Slave.{slaveNames}
 use Rattle.wire.specs.Memory.{Cells, lent, pointed, putByte, byteAt, steppedOn}
 use Rattle.wire.specs.Machine.{Parts, Out}
 use Rattle.wire.specs.Machine as Machine
+use Rattle.bus.specs.declared.Power.the-variants.{On}
 use Rattle.companion.specs.Part.{loadOf, loadedOf, tickOf, guardOf, pinOf}
 use Rattle.companion.specs.declared.Companion.{Companion}
 use Rattle.device.specs.Desk.{aims, stores}
-use Rattle.device.specs.declared.Power.the-variants.{On}
 use Rattle.device.specs.declared.State.{State}
 
 -- "8,192 bytes of FRAM."

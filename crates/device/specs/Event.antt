@@ -12,12 +12,12 @@ use lib.Dec.{eqb}
 use Rattle.wire.specs.Machine.{Line, start, stop, clock, mastersLine, line, tick, step}
 use Rattle.calendar.specs.declared.Rolled.{Rolled}
 use Rattle.calendar.specs.declared.Rolled.the-variants.{Nothing}
+use Rattle.bus.specs.declared.Power.{Power}
+use Rattle.bus.specs.declared.Power.the-variants.{On, Backup, Off}
 use Rattle.companion.specs.Part.{tickOf, rolledOf}
 use Rattle.device.specs.Chip.{fm3130, machineOf, Done, doneOf}
 use Rattle.device.specs.Bus.{withCompanion}
 use Rattle.device.specs.Power.{isSupplied, backedUp, dark, restored, powered}
-use Rattle.device.specs.declared.Power.{Power}
-use Rattle.device.specs.declared.Power.the-variants.{On, Backup, Off}
 use Rattle.device.specs.declared.State.{State}
 
 pub data Happening : Type 0 where

@@ -6,10 +6,10 @@
 -- Assumes nothing.
 use mathlib.Core.Bool.{Bool, true, false}
 use Rattle.wire.specs.declared.Phase.the-variants.{Idle}
+use Rattle.bus.specs.declared.Power.{Power}
+use Rattle.bus.specs.declared.Power.the-variants.{On, Backup, Off}
 use Rattle.companion.specs.Part.{backedOf, lostOf, returnedOf}
 use Rattle.companion.specs.declared.Companion.{Companion}
-use Rattle.device.specs.declared.Power.{Power}
-use Rattle.device.specs.declared.Power.the-variants.{On, Backup, Off}
 use Rattle.device.specs.declared.State.{State}
 
 -- "Power or backup is present."

@@ -3,8 +3,8 @@
 ghost use mathlib.Core.Path.{_≡_};
 ghost use Prim.Native.Nat.{_≤_};
 ghost use Rattle.device.specs.Answer.{pinShown, answerByte};
-use crate::Power;
 use crate::State;
+use bus::Power;
 use companion::Companion;
 
 // What the pin shows: nothing once both supplies are gone.

@@ -3,17 +3,18 @@
 //
 // numbers  the numbers of the table of refusals
 // desk     the clocks of the bytes that serve the companion
-// bus      a Clock while main power is present, by phase
+// clock    a Clock while main power is present, by phase
 // supply   Start, Stop, Clock and tick under each supply, and the three events of the supplies
 // answer   the answer byte
 // limits   which states are well-formed
 // step     one event byte, and the entry with its refusals
+use bus::Power;
 use calendar::Rolled;
 use companion::Companion;
 use wire::Phase;
 
 mod answer;
-mod bus;
+mod clock;
 mod desk;
 mod limits;
 pub mod numbers;
@@ -22,13 +23,6 @@ pub mod supply;
 
 // The bytes of memory.
 pub const MEMORY_SIZE: u16 = 8192;
-
-// Which supplies are present: main power; backup alone; none.
-pub enum Power {
-    On,
-    Backup,
-    Off,
-}
 
 // The device without its memory, which the caller lends. The memory address stands here, the companion's own inside it.
 pub struct State {

@@ -11,11 +11,11 @@ use native.Mathlib.Omega.{arith}
 use Rattle.wire.specs.Machine.{start, stop, clock, line, tick, Answer, answerOf, step}
 use Rattle.wire.specs.Machine as Machine
 use Rattle.wire.specs.Memory.{Cells, lent}
+use Rattle.bus.specs.declared.Power.the-variants.{On}
 use Rattle.companion.specs.declared.Companion.{Companion}
 use Rattle.device.specs.Chip.{fm3130, machineOf, Done, doneOf}
 use Rattle.device.specs.Event.{eventOf, eventOn, happening}
 use Rattle.device.specs.Answer.{answerByte}
-use Rattle.device.specs.declared.Power.the-variants.{On}
 use Rattle.isolation.specs.Merge.{Said, by, eventsOf, keepIf, picked}
 use Rattle.isolation.specs.Party.{isMemory, isCompanion, BusEvent, PartyEvent}
 use Rattle.isolation.specs.Apart.{run, answersOf}

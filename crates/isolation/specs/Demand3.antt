@@ -14,11 +14,11 @@ use mathlib.Core.List.{List, [], _∷_, map}
 use Rattle.wire.specs.Machine.{start, stop, clock, line, tick}
 use Rattle.wire.specs.declared.Side.the-variants.{Memory, Companion}
 use Rattle.wire.specs.declared.Phase.the-variants.{Idle}
+use Rattle.bus.specs.declared.Power.the-variants.{On}
 use Rattle.companion.specs.Part.{guardOf}
 use Rattle.device.specs.Chip.{fm3130}
 use Rattle.device.specs.Event.{eventOf}
 use Rattle.device.specs.Answer.{answerByte}
-use Rattle.device.specs.declared.Power.the-variants.{On}
 use Rattle.device.specs.declared.State.{State}
 use Rattle.rig.specs.Run.{runOf}
 use Rattle.isolation.specs.Merge.{eventsOf, picked}

@@ -13,9 +13,9 @@ use mathlib.Core.List.{List}
 use lib.ListN.{take, drop}
 use Rattle.wire.specs.declared.Side.the-variants.{Memory, Companion}
 use Rattle.wire.specs.declared.Phase.the-variants.{Idle}
+use Rattle.bus.specs.declared.Power.the-variants.{On}
 use Rattle.device.specs.Chip.{fm3130}
 use Rattle.device.specs.Numbers.{accepted}
-use Rattle.device.specs.declared.Power.the-variants.{On}
 use Rattle.device.specs.declared.State.{State}
 use Rattle.rig.specs.Image.{decodeOf}
 use Rattle.rig.specs.Run.{outcomeOf}

@@ -13,9 +13,9 @@ use Rattle.wire.specs.Bits.{sentBit}
 use Rattle.wire.specs.Machine.{start, stop, clock, Event, line, tick}
 use Rattle.wire.specs.declared.Side.the-variants.{Memory, Companion}
 use Rattle.wire.specs.declared.Phase.the-variants.{Idle}
+use Rattle.bus.specs.declared.Power.the-variants.{On}
 use Rattle.companion.specs.Power.{lostDate}
 use Rattle.device.specs.Chip.{fm3130}
-use Rattle.device.specs.declared.Power.the-variants.{On}
 use Rattle.isolation.specs.Merge.{Said, by}
 use Rattle.isolation.specs.Party.{to, BusEvent, PartyEvent}
 use Rattle.isolation.specs.Demand3.{Held}

@@ -13,10 +13,10 @@ use Rattle.wire.specs.Machine.{start, stop, clock, clocked, lined}
 use Rattle.wire.specs.declared.Phase.{Phase}
 use Rattle.wire.specs.declared.Phase.the-variants.{Idle}
 use Rattle.wire.proofs.Tests.{by-test, and-split, and-join}
-use Rattle.device.specs.Limits.{isIdle}
+use Rattle.bus.specs.Limits.{isIdle}
+use Rattle.bus.specs.declared.Power.{Power}
+use Rattle.bus.specs.declared.Power.the-variants.{On, Backup, Off}
 use Rattle.device.specs.Event.{Happening, onWire, second, lost, gone, returned, happening, eventOn, eventOf}
-use Rattle.device.specs.declared.Power.{Power}
-use Rattle.device.specs.declared.Power.the-variants.{On, Backup, Off}
 use Rattle.device.specs.declared.State.{State}
 use Rattle.rig.specs.Run.{runOf}
 use Rattle.rig.proofs.Pieces.{run-append}

@@ -24,12 +24,12 @@ use Rattle.wire.specs.declared.Phase.the-variants.{Idle, Slave, AddressHigh, Ad
 use Rattle.wire.proofs.Cells.{fetch-bytes}
 use Rattle.wire.proofs.HighFirst.{pushed-sent}
 use Rattle.wire.proofs.Tests.{by-test, and-split}
+use Rattle.bus.specs.Limits.{powerWithin}
+use Rattle.bus.specs.declared.Power.{Power}
+use Rattle.bus.specs.declared.Power.the-variants.{On, Backup, Off}
 use Rattle.companion.specs.declared.Companion as Part
 use Rattle.device.specs.Chip.{memorySize, fm3130}
-use Rattle.device.specs.Limits.{powerWithin}
 use Rattle.device.specs.Event.{Happening, onWire, second, lost, gone, returned, happening, eventOn, eventOf}
-use Rattle.device.specs.declared.Power.{Power}
-use Rattle.device.specs.declared.Power.the-variants.{On, Backup, Off}
 use Rattle.device.specs.declared.State.{State}
 use Rattle.rig.specs.Run.{runOf}
 use Rattle.table.specs.Protected.{Change, same, eighth}

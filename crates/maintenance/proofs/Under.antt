@@ -25,12 +25,12 @@ use Rattle.wire.specs.declared.Named.the-variants.{Nobody, Reads, Writes}
 use Rattle.wire.specs.declared.Phase.{Phase}
 use Rattle.wire.specs.declared.Phase.the-variants.{Idle, Slave, AddressHigh, AddressLow, Pointer, Write, Read}
 use Rattle.wire.proofs.Tests.{by-test}
+use Rattle.bus.specs.Limits.{isIdle, powerWithin}
+use Rattle.bus.specs.declared.Power.{Power}
+use Rattle.bus.specs.declared.Power.the-variants.{On, Backup, Off}
 use Rattle.companion.specs.declared.Companion as Part
 use Rattle.device.specs.Chip.{fm3130}
-use Rattle.device.specs.Limits.{isIdle, powerWithin}
 use Rattle.device.specs.Event.{Happening, onWire, second, lost, gone, returned, happening, eventOn, eventOf}
-use Rattle.device.specs.declared.Power.{Power}
-use Rattle.device.specs.declared.Power.the-variants.{On, Backup, Off}
 use Rattle.device.specs.declared.State.{State}
 use Rattle.rig.specs.Run.{runOf}
 use Rattle.lamps.specs.History.{Moment, History, moment, happened, left, pastOf}

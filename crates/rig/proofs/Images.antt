@@ -13,11 +13,11 @@ use Rattle.wire.specs.declared.Side.the-variants.{Memory, Companion}
 use Rattle.wire.specs.declared.Phase.{Phase}
 use Rattle.wire.specs.declared.Phase.the-variants.{Idle, Slave, AddressHigh, AddressLow, Pointer, Write, Read}
 use Rattle.wire.proofs.Tests.{by-test, and-split}
+use Rattle.bus.specs.declared.Power.{Power}
+use Rattle.bus.specs.declared.Power.the-variants.{On, Backup, Off}
 use Rattle.companion.specs.Registers.{registerBytes}
 use Rattle.device.specs.Power.{fresh}
 use Rattle.device.specs.Limits.{wellFormed}
-use Rattle.device.specs.declared.Power.{Power}
-use Rattle.device.specs.declared.Power.the-variants.{On, Backup, Off}
 use Rattle.device.specs.declared.State.{State}
 use Rattle.device.proofs.Wellformed.{fresh-well-formed}
 use Rattle.rig.specs.Layout.{powerNumber, powerOf, transferOf, phaseOf}

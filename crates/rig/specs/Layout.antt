@@ -9,8 +9,8 @@ use lib.Dec.{eqb}
 use Rattle.wire.specs.declared.Side.the-variants.{Memory, Companion}
 use Rattle.wire.specs.declared.Phase.{Phase}
 use Rattle.wire.specs.declared.Phase.the-variants.{Idle, Slave, AddressHigh, AddressLow, Pointer, Write, Read}
-use Rattle.device.specs.declared.Power.{Power}
-use Rattle.device.specs.declared.Power.the-variants.{On, Backup, Off}
+use Rattle.bus.specs.declared.Power.{Power}
+use Rattle.bus.specs.declared.Power.the-variants.{On, Backup, Off}
 use Rattle.rig.specs.declared.Transfer.{Transfer}
 
 -- Byte 25.

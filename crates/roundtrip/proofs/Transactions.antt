@@ -14,10 +14,10 @@ use Rattle.wire.specs.declared.Side.the-variants.{Memory}
 use Rattle.wire.specs.declared.Phase.{Phase}
 use Rattle.wire.specs.declared.Phase.the-variants.{Idle, Write, Read}
 use Rattle.wire.proofs.Tests.{by-test}
+use Rattle.bus.specs.declared.Power.the-variants.{On}
 use Rattle.companion.specs.Part.{guardOf}
 use Rattle.companion.specs.declared.Companion.{Companion}
 use Rattle.device.specs.Chip.{memorySize}
-use Rattle.device.specs.declared.Power.the-variants.{On}
 use Rattle.device.specs.declared.State.{State}
 use Rattle.transfers.proofs.Runs.{Leads, leads-then, start-leads}
 use Rattle.transfers.proofs.Written.{onBus, data-stored, data-left, write-opens}

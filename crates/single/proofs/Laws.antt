@@ -10,13 +10,14 @@ use native.Mathlib.Omega.{arith}
 use lib.Dec.{leb, eqb}
 use lib.ListN.{length, take}
 use borrow.Author.Tests.{eqb-true, eqb-false, leb-true, leb-false, le-leb}
+use Rattle.weights.specs.Weight.{has}
 use Rattle.wire.proofs.Tests.{by-test}
 use Rattle.calendar.specs.Highest.{changedOf}
 use Rattle.calendar.specs.Next.{isValid}
 use Rattle.calendar.specs.declared.Rolled.{Rolled}
 use Rattle.calendar.specs.declared.Rolled.the-variants.{Nothing}
 use Rattle.calendar.proofs.Highest.{changed-self}
-use Rattle.companion.specs.Map.{OSCEN, has}
+use Rattle.companion.specs.Map.{OSCEN}
 use Rattle.companion.specs.Part.{rolledOf}
 use Rattle.companion.proofs.Says.{tick-rolled, nothing-if-silent, nothing-only-if-silent}
 use Rattle.device.specs.Chip.{memorySize, Done}

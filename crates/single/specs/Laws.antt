@@ -11,10 +11,11 @@ use mathlib.Core.Bool.{Bool, true, not, _||_}
 use mathlib.Core.List.{List, [], _∷_}
 use lib.Dec.{eqb}
 use lib.ListN.{take}
+use Rattle.weights.specs.Weight.{has}
 use Rattle.calendar.specs.Highest.{changedOf}
 use Rattle.calendar.specs.Next.{isValid}
 use Rattle.calendar.specs.declared.Rolled.the-variants.{Nothing}
-use Rattle.companion.specs.Map.{OSCEN, has}
+use Rattle.companion.specs.Map.{OSCEN}
 use Rattle.device.specs.Power.{isSupplied}
 use Rattle.device.specs.Event.{eventOf, rolledIn}
 use Rattle.device.specs.Numbers.{accepted}

@@ -9,6 +9,7 @@ use native.Mathlib.Omega.{arith}
 use native.Mathlib.Nat.{add-zero}
 use lib.Dec.{T, eqb, ltb}
 use borrow.Author.Tests.{eq-eqb, ne-eqb, lt-ltb, le-ltb, ltb-true, ltb-false}
+use Rattle.weights.specs.Weight.{has, only}
 use Rattle.calendar.specs.Field.{bit}
 use Rattle.calendar.specs.Next.{isValid, nextOf}
 use Rattle.calendar.specs.After.{after, crossings}
@@ -20,7 +21,7 @@ use Rattle.days.proofs.Later.{after-invalid}
 use Rattle.companion.specs.declared.Alarm.{Alarm}
 use Rattle.companion.specs.declared.Registers.{Registers}
 use Rattle.companion.specs.declared.Companion.{Companion}
-use Rattle.companion.specs.Map.{AF, CF, W, R, OSCEN, has, only}
+use Rattle.companion.specs.Map.{AF, CF, W, R, OSCEN}
 use Rattle.companion.specs.Control.{flagged, followed}
 use Rattle.companion.specs.Tick.{matches, toldOf, countedOf, tickOf}
 use Rattle.sleep.specs.Ticks.{ticksOf, rungWithin, caughtOf}

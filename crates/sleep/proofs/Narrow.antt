@@ -11,10 +11,11 @@ use native.Mathlib.Nat.{mod-lt, add-mul, one-mul, div-add-mod', le-div-iff-mul-l
 use native.Mathlib.Nat.{div-mul-le-self, div-le-self}
 use lib.Dec.{eqb, leb}
 use borrow.Author.Tests.{eq-eqb, ne-eqb, eqb-true, eqb-false, leb-true, leb-false}
+use Rattle.weights.specs.Weight.{has}
 use Rattle.calendar.specs.Field.{value, bcd}
 use Rattle.calendar.proofs.Field.{value-bcd, bcd-value, bcd-digit}
 use Rattle.sleep.specs.declared.search.Stretch.{Stretch}
-use Rattle.companion.specs.Map.{MATCH, has}
+use Rattle.companion.specs.Map.{MATCH}
 use Rattle.sleep.specs.Search.{passes, Asks, Some, Narrowed}
 
 -- no number has digits that are none

@@ -9,6 +9,7 @@ use mathlib.Core.Bool.{Bool, true, false, _&&_, _||_}
 use native.Mathlib.Omega.{arith}
 use lib.Dec.{T, eqb, ltb, leb}
 use borrow.Author.Tests.{eqb-true, eqb-false, lt-ltb, le-leb, ltb-true, ltb-false, leb-true}
+use Rattle.weights.specs.Weight.{has}
 use Rattle.calendar.specs.Next.{isValid}
 use Rattle.calendar.specs.Instant.{monthStart, instant}
 use Rattle.calendar.specs.After.{after}
@@ -22,7 +23,7 @@ use Rattle.days.proofs.Months.{in-month-unique, month-exists}
 use Rattle.days.proofs.Later.{date-below, weekdayOf, after-at}
 use Rattle.companion.specs.declared.Alarm.{Alarm}
 use Rattle.sleep.specs.declared.search.Stretch.{Stretch}
-use Rattle.companion.specs.Map.{MATCH, has}
+use Rattle.companion.specs.Map.{MATCH}
 use Rattle.companion.specs.Tick.{agrees, matches}
 use Rattle.sleep.specs.Search.{passes, Asks, Some, Tells, DayRings, Narrowed}
 use Rattle.sleep.specs.Ticks.{rungWithin}

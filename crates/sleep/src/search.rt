@@ -15,11 +15,11 @@ ghost use Rattle.sleep.specs.Ticks.{rungWithin};
 use calendar::Calendar;
 use companion::Alarm;
 use companion::map::MATCH;
-use companion::map::has;
 use days::places::instant;
 use days::places::number;
 use days::starts::month_of;
 use days::starts::month_start;
+use weights::has;
 
 // Numbers that follow each other, the last not included: seconds, minutes, hours or days of the century.
 pub struct Stretch {

@@ -11,12 +11,12 @@ use companion::Companion;
 use companion::Registers;
 use companion::control::followed;
 use companion::map::OSCEN;
-use companion::map::has;
 use companion::tick::told;
 use days::after_by;
 use days::starts::STARTS;
 use device::State;
 use device::supply::is_supplied;
+use weights::has;
 
 // Ticks that count: the core goes on by all of them, the flags of all rise, 02h to 08h take the last core.
 fn counted(starts: &[u16; 1200], companion: Companion, n: u32) -> Companion

@@ -6,9 +6,9 @@ use mathlib.Core.Path.{_≡_, refl, ap}
 use native.Mathlib.Omega.{arith}
 use lib.Dec.{ltb}
 use borrow.Author.Tests.{eqb-true, eqb-false}
+use Rattle.weights.specs.Weight.{has, only}
 use Rattle.wire.specs.Memory.{protectedBelow}
 use Rattle.wire.proofs.Tests.{by-test}
-use Rattle.companion.specs.Map.{has, only}
 use Rattle.device.specs.Chip.{memorySize}
 use Rattle.table.specs.Addresses.{UpperBitsIgnored, ProtectedRanges}
 

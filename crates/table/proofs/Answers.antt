@@ -10,20 +10,21 @@ use mathlib.Core.List.{List}
 use native.Mathlib.Omega.{arith}
 use lib.Dec.{eqb}
 use borrow.Author.Tests.{eqb-true}
+use Rattle.weights.specs.Weight.{has, only}
+use Rattle.weights.proofs.Cases.{by-cond}
 use Rattle.wire.specs.Memory.{lent}
 use Rattle.wire.specs.Machine.{start, stop, clock, lined}
 use Rattle.wire.specs.declared.Phase.{Phase}
 use Rattle.wire.proofs.Low.{clocked-low}
-use Rattle.companion.specs.Map.{AF, AEN, CAL, ALSW, has, only}
+use Rattle.bus.specs.declared.Power.{Power}
+use Rattle.bus.specs.declared.Power.the-variants.{On, Backup, Off}
+use Rattle.companion.specs.Map.{AF, AEN, CAL, ALSW}
 use Rattle.companion.specs.Pin.{functionOf}
 use Rattle.companion.specs.Part.{pinOf}
 use Rattle.companion.specs.declared.Companion.{Companion}
-use Rattle.companion.proofs.Cases.{by-cond}
 use Rattle.companion.proofs.Shown.{function-le}
 use Rattle.device.specs.Chip.{fm3130}
 use Rattle.device.specs.Event.{Happening, onWire, second, lost, gone, returned, happening, eventOn}
-use Rattle.device.specs.declared.Power.{Power}
-use Rattle.device.specs.declared.Power.the-variants.{On, Backup, Off}
 use Rattle.device.specs.declared.State.{State}
 use Rattle.table.specs.Answers.{EventBytes, functionBy, AnswerBits, EveryAnswer, LineBits}
 

@@ -16,10 +16,10 @@ use Rattle.wire.specs.Machine.{clocked}
 use Rattle.wire.specs.declared.Side.the-variants.{Memory}
 use Rattle.wire.specs.declared.Phase.{Phase}
 use Rattle.wire.specs.declared.Phase.the-variants.{Idle, Slave, Pointer, Write}
+use Rattle.bus.specs.declared.Power.the-variants.{On}
 use Rattle.companion.specs.Part.{aimOf}
 use Rattle.device.specs.Chip.{fm3130, Done, doneOf}
 use Rattle.device.specs.Event.{eventOf}
-use Rattle.device.specs.declared.Power.the-variants.{On}
 use Rattle.device.specs.declared.State.{State}
 use Rattle.table.specs.Stored.{clockEvent}
 use Rattle.table.specs.Eighth.{live, NotAcknowledged, SlaveRefused, PointerTaken, PointerRefused}

@@ -22,11 +22,11 @@ use Rattle.wire.specs.declared.Phase.the-variants.{Idle, Slave, AddressHigh, Ad
 use Rattle.wire.proofs.Clock.{received-inside, received-last, received-ack}
 use Rattle.wire.proofs.Cells.{low-bytes, fetch-bytes}
 use Rattle.wire.proofs.Tests.{by-test}
+use Rattle.bus.specs.declared.Power.{Power}
+use Rattle.bus.specs.declared.Power.the-variants.{On, Backup, Off}
 use Rattle.companion.specs.Part.{guardOf}
 use Rattle.device.specs.Chip.{memorySize, fm3130}
 use Rattle.device.specs.Event.{Happening, onWire, second, lost, gone, returned, happening, eventOn}
-use Rattle.device.specs.declared.Power.{Power}
-use Rattle.device.specs.declared.Power.the-variants.{On, Backup, Off}
 use Rattle.device.specs.declared.State.{State}
 use Rattle.table.specs.Protected.{Protected, Change, same, eighth, OnlyEighthClocks, ProtectedUnchanged}
 

@@ -20,13 +20,13 @@ use Rattle.wire.specs.declared.Phase.{Phase}
 use Rattle.wire.specs.declared.Phase.the-variants.{Idle, Write}
 use Rattle.wire.proofs.Clock.{received-inside, received-last, received-ack}
 use Rattle.wire.proofs.Tests.{by-test}
+use Rattle.bus.specs.declared.Power.the-variants.{On}
 use Rattle.companion.specs.Part.{guardOf, tickOf}
 use Rattle.companion.proofs.Shown.{tick-guard}
 use Rattle.device.specs.Chip.{memorySize, fm3130, Done, doneOf}
 use Rattle.device.specs.Bus.{withCompanion}
 use Rattle.device.specs.Event.{eventOf, still}
 use Rattle.device.specs.Limits.{wellFormed}
-use Rattle.device.specs.declared.Power.the-variants.{On}
 use Rattle.device.specs.declared.State.{State}
 use Rattle.rig.specs.Run.{Ended, runOf}
 use Rattle.rig.proofs.Pieces.{run-append}

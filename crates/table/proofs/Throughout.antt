@@ -20,14 +20,14 @@ use Rattle.wire.specs.declared.Phase.the-variants.{Idle, Slave, AddressHigh, Ad
 use Rattle.wire.proofs.Clock.{received-inside, received-last, received-ack}
 use Rattle.wire.proofs.Clock.{sent-first, sent-within, sent-last, sent-ack}
 use Rattle.wire.proofs.Tests.{by-test}
+use Rattle.bus.specs.declared.Power.{Power}
+use Rattle.bus.specs.declared.Power.the-variants.{On, Backup, Off}
 use Rattle.companion.specs.Part.{guardOf, loadOf, loadedOf, returnedOf}
 use Rattle.companion.specs.declared.Companion.{Companion as Desk}
 use Rattle.companion.proofs.Shown.{aim-guard, loaded-guard, tick-guard}
 use Rattle.device.specs.Chip.{memorySize, fm3130}
 use Rattle.device.specs.Desk.{aims, stores}
 use Rattle.device.specs.Event.{Happening, onWire, second, lost, gone, returned, happening, eventOf, eventOn}
-use Rattle.device.specs.declared.Power.{Power}
-use Rattle.device.specs.declared.Power.the-variants.{On, Backup, Off}
 use Rattle.device.specs.declared.State.{State}
 use Rattle.rig.specs.Run.{runOf}
 use Rattle.table.specs.Stored.{after}

@@ -6,16 +6,16 @@ use Prim.Native.Nat.{ℕ, _<_}
 use mathlib.Core.Path.{_≡_, refl, _∙_}
 use mathlib.Core.Bool.{Bool, true, false}
 use mathlib.Core.List.{List}
+use Rattle.weights.proofs.Cases.{none, _then_, below}
 use Rattle.wire.specs.Memory.{lent}
 use Rattle.wire.specs.Machine.{clock, clocked, lined}
 use Rattle.wire.specs.declared.Phase.{Phase}
 use Rattle.wire.specs.declared.Phase.the-variants.{Idle}
+use Rattle.bus.specs.declared.Power.{Power}
+use Rattle.bus.specs.declared.Power.the-variants.{On, Backup, Off}
 use Rattle.companion.specs.declared.Companion.{Companion}
-use Rattle.companion.proofs.Cases.{none, _then_, below}
 use Rattle.device.specs.Chip.{fm3130, doneOf}
 use Rattle.device.specs.Event.{onWire, happening, eventOn, eventOf}
-use Rattle.device.specs.declared.Power.{Power}
-use Rattle.device.specs.declared.Power.the-variants.{On, Backup, Off}
 use Rattle.device.specs.declared.State.{State}
 use Rattle.table.specs.Stored.{clockEvent}
 use Rattle.table.specs.Unheard.{mastersBit, unchanged, OffUnheard, OutsideUnheard}

@@ -7,8 +7,8 @@ use Prim.Native.Nat.{ℕ, _+_, _*_, _%_, _<_}
 use mathlib.Core.Path.{_≡_}
 use mathlib.Core.List.{[], _∷_, map}
 use lib.Dec.{ltb}
+use Rattle.weights.specs.Weight.{has, only}
 use Rattle.wire.specs.Memory.{joined, protectedBelow}
-use Rattle.companion.specs.Map.{has, only}
 use Rattle.device.specs.Chip.{memorySize}
 use Rattle.device.specs.declared.State.{State}
 use Rattle.table.specs.Protected.{Protected}

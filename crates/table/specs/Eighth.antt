@@ -14,10 +14,10 @@ use Rattle.wire.specs.Bits.{pushed}
 use Rattle.wire.specs.declared.Side.the-variants.{Memory}
 use Rattle.wire.specs.declared.Phase.{Phase}
 use Rattle.wire.specs.declared.Phase.the-variants.{Idle, Slave, Pointer, Write}
+use Rattle.bus.specs.declared.Power.the-variants.{On}
 use Rattle.companion.specs.Change.{withAddress}
 use Rattle.companion.specs.declared.Companion.{Companion}
 use Rattle.device.specs.Event.{eventOf}
-use Rattle.device.specs.declared.Power.the-variants.{On}
 use Rattle.device.specs.declared.State.{State}
 use Rattle.table.specs.Stored.{clockEvent, Pulls}
 use Rattle.table.specs.Protected.{Protected}

@@ -13,10 +13,10 @@ use Rattle.wire.specs.Memory.{isProtected}
 use Rattle.wire.specs.Machine.{clock}
 use Rattle.wire.specs.declared.Side.the-variants.{Memory}
 use Rattle.wire.specs.declared.Phase.the-variants.{Write}
+use Rattle.bus.specs.declared.Power.the-variants.{On}
 use Rattle.companion.specs.Part.{guardOf}
 use Rattle.device.specs.Chip.{memorySize}
 use Rattle.device.specs.Event.{Happening, onWire, happening, eventOf}
-use Rattle.device.specs.declared.Power.the-variants.{On}
 use Rattle.device.specs.declared.State.{State}
 
 -- The address is protected, by WP1 WP0 of 0Eh as it stands.

@@ -7,9 +7,9 @@ use Prim.Native.Nat.{ℕ, _+_, _/_, _%_}
 use mathlib.Core.List.{List, [], _∷_, _++_}
 use Rattle.wire.specs.declared.Phase.the-variants.{Idle}
 use Rattle.calendar.specs.declared.Calendar.{Calendar}
+use Rattle.bus.specs.declared.Power.the-variants.{On}
 use Rattle.companion.specs.Power.{lostRegisters, lostDate}
 use Rattle.companion.specs.declared.Registers.{Registers}
-use Rattle.device.specs.declared.Power.the-variants.{On}
 use Rattle.device.specs.declared.State.{State}
 
 -- The eight clocks of a byte, high bit first.

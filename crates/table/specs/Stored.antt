@@ -15,10 +15,10 @@ use lib.ListN.{length, getD, set}
 use Rattle.wire.specs.Bits.{pushed}
 use Rattle.wire.specs.declared.Side.the-variants.{Memory}
 use Rattle.wire.specs.declared.Phase.the-variants.{Write}
+use Rattle.bus.specs.declared.Power.the-variants.{On}
 use Rattle.device.specs.Chip.{memorySize}
 use Rattle.device.specs.Event.{eventOf}
 use Rattle.device.specs.Limits.{wellFormed}
-use Rattle.device.specs.declared.Power.the-variants.{On}
 use Rattle.device.specs.declared.State.{State}
 use Rattle.rig.specs.Run.{runOf}
 

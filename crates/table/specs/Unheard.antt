@@ -9,9 +9,9 @@ use mathlib.Core.Bool.{Bool, not}
 use mathlib.Core.List.{List}
 use lib.Dec.{eqb}
 use Rattle.wire.specs.declared.Phase.the-variants.{Idle}
+use Rattle.bus.specs.declared.Power.the-variants.{On}
 use Rattle.device.specs.Chip.{Done}
 use Rattle.device.specs.Event.{eventOf}
-use Rattle.device.specs.declared.Power.the-variants.{On}
 use Rattle.device.specs.declared.State.{State}
 use Rattle.table.specs.Stored.{clockEvent}
 

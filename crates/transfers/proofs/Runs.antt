@@ -15,11 +15,11 @@ use Rattle.wire.specs.Machine as Machine
 use Rattle.wire.specs.Whole.{Clocked, clocksOn}
 use Rattle.wire.specs.declared.Phase.{Phase}
 use Rattle.wire.specs.declared.Phase.the-variants.{Slave}
+use Rattle.bus.specs.declared.Power.the-variants.{On}
 use Rattle.companion.specs.Part.{pinOf}
 use Rattle.companion.specs.declared.Companion.{Companion}
 use Rattle.device.specs.Chip.{fm3130, Done, doneOf}
 use Rattle.device.specs.Event.{happening, eventOn, eventOf}
-use Rattle.device.specs.declared.Power.the-variants.{On}
 use Rattle.device.specs.declared.State.{State}
 use Rattle.rig.specs.Run.{Ended, answerTo, runOf}
 use Rattle.rig.proofs.Pieces.{run-append}

@@ -7,17 +7,17 @@ use mathlib.Core.Bool.{Bool}
 use mathlib.Core.List.{List}
 use lib.Dec.{eqb}
 use lib.ListN.{getD}
+use Rattle.weights.proofs.Cases.{by-cond}
 use Rattle.wire.specs.Memory.{lent}
 use Rattle.wire.specs.Machine as Machine
 use Rattle.wire.specs.Whole.{eight, clocksOn, SendsMemory, SendsCompanion}
 use Rattle.wire.specs.declared.Side.the-variants.{Memory, Companion}
 use Rattle.wire.specs.declared.Phase.the-variants.{Read}
 use Rattle.wire.proofs.Whole.{sends-memory, sends-companion}
+use Rattle.bus.specs.declared.Power.the-variants.{On}
 use Rattle.companion.specs.Registers.{registerAt}
 use Rattle.companion.specs.Part.{nextAddress, controlRead, steppedOf, loadOf, loadedOf}
-use Rattle.companion.proofs.Cases.{by-cond}
 use Rattle.device.specs.Chip.{fm3130, machineOf}
-use Rattle.device.specs.declared.Power.the-variants.{On}
 use Rattle.device.specs.declared.State.{State}
 use Rattle.transfers.specs.Sends.{SentFromMemory, MemorySends, registerNow, SentFromRegisters, RegisterSends}
 use Rattle.transfers.proofs.Runs.{live, Leads, clocks-lead}

@@ -20,10 +20,10 @@ use Rattle.wire.specs.declared.Phase.{Phase}
 use Rattle.wire.specs.declared.Phase.the-variants.{Idle, Slave, AddressHigh, AddressLow, Write}
 use Rattle.wire.proofs.Tests.{by-test}
 use Rattle.wire.proofs.Whole.{madeOf, made, slave-answered, high-taken, low-taken, data-taken, data-refused}
+use Rattle.bus.specs.declared.Power.the-variants.{On}
 use Rattle.companion.specs.Part.{guardOf}
 use Rattle.companion.specs.declared.Companion.{Companion}
 use Rattle.device.specs.Chip.{memorySize, fm3130}
-use Rattle.device.specs.declared.Power.the-variants.{On}
 use Rattle.device.specs.declared.State.{State}
 use Rattle.transfers.specs.Clocks.{nineClocks, writeTo, linesOf, lastLine}
 use Rattle.transfers.specs.Written.{addressOf, Written, stored, refused, WrittenOnTheWire}

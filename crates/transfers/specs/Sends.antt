@@ -13,9 +13,9 @@ use Rattle.wire.specs.HighFirst.{sentBits}
 use Rattle.wire.specs.Whole.{eight, lower}
 use Rattle.wire.specs.declared.Side.the-variants.{Memory, Companion}
 use Rattle.wire.specs.declared.Phase.the-variants.{Read}
+use Rattle.bus.specs.declared.Power.the-variants.{On}
 use Rattle.companion.specs.Registers.{registerBytes}
 use Rattle.companion.specs.Part.{loadedOf}
-use Rattle.device.specs.declared.Power.the-variants.{On}
 use Rattle.device.specs.declared.State.{State}
 use Rattle.rig.specs.Run.{runOf}
 use Rattle.transfers.specs.Clocks.{clocksOf, linesOf}

@@ -11,9 +11,9 @@ use mathlib.Core.Bool.{Bool, true, false}
 use mathlib.Core.List.{List, _++_}
 use lib.ListN.{length, getD, set}
 use Rattle.wire.specs.Memory.{isProtected}
+use Rattle.bus.specs.declared.Power.the-variants.{On}
 use Rattle.companion.specs.Part.{guardOf}
 use Rattle.device.specs.Chip.{memorySize}
-use Rattle.device.specs.declared.Power.the-variants.{On}
 use Rattle.device.specs.declared.State.{State}
 use Rattle.rig.specs.Run.{Ended, runOf}
 use Rattle.transfers.specs.Clocks.{nineClocks, writeTo, linesOf, lastLine}

@@ -2,7 +2,7 @@
 -- What each event asks while backup alone is present.
 -- Assumes nothing.
 use Prim.Native.Nat.{zero-le}
-use Rattle.bits.proofs.Cases.{is-last}
+use Rattle.weights.proofs.Cases.{is-last}
 use Rattle.bus.specs.Event.{happening}
 use Rattle.bus.specs.Serve.{deedOf}
 use Rattle.bus.proofs.asks.backup_asks.Statement.{statement}

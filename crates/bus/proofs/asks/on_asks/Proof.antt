@@ -3,7 +3,7 @@
 -- Assumes nothing.
 use Prim.Native.Nat.{zero-le}
 use borrow.Author.Needs.{needs}
-use Rattle.bits.proofs.Cases.{is-last}
+use Rattle.weights.proofs.Cases.{is-last}
 use Rattle.bus.specs.Event.{happening}
 use Rattle.bus.specs.Serve.{deedOf}
 use Rattle.bus.proofs.asks.on_asks.Statement.{statement}

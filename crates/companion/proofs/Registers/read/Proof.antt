@@ -2,7 +2,7 @@
 -- `companion::Registers::read` meets its contract. Each arm at its own address; the last is 0Eh, the only one left.
 -- Assumes nothing.
 use Prim.Native.Nat.{zero-le}
-use Rattle.companion.proofs.Cases.{is-last}
+use Rattle.weights.proofs.Cases.{is-last}
 use Rattle.companion.proofs.Registers.read.Statement.{statement}
 use Rattle.companion.proofs.Registers.read.Tie as tie
 

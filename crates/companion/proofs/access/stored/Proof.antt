@@ -2,7 +2,7 @@
 -- `companion::access::stored` meets its contract. Each arm at its own address; the last is 0Eh, the only one left.
 -- Assumes nothing.
 use borrow.Author.Needs.{needs}
-use Rattle.companion.proofs.Cases.{is-last}
+use Rattle.weights.proofs.Cases.{is-last}
 use Rattle.companion.proofs.access.stored.Statement.{statement}
 use Rattle.companion.proofs.access.stored.Tie as tie
 

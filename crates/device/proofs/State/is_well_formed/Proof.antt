@@ -1,8 +1,10 @@
 -- SPDX-License-Identifier: Apache-2.0
 -- The limits of a state, one by one.
 -- Assumes nothing.
+use mathlib.Core.Path.{_∙_}
 use borrow.Author.Needs.{needs}
 use Rattle.device.specs.Limits.{wellFormed}
+use Rattle.device.proofs.Entry.{phase-from-zero}
 use Rattle.device.proofs.State.is_well_formed.Statement.{statement}
 use Rattle.device.proofs.State.is_well_formed.Tie as tie
 
@@ -17,7 +19,7 @@ power-within-requires c κs = search needs
 
 returns : tie.Need-returns
 unfolding wellFormed
-returns c = rw (c .power-within .ensures, c .before .phase-within .ensures, c .before .before .is-within .ensures)
+returns c = rw (c .power-within .ensures, c .before .phase-within .ensures ∙ phase-from-zero _, c .before .before .is-within .ensures)
 
 pub is-well-formed-spec : {M : Type 1} → statement M
 is-well-formed-spec =
