@@ -13,8 +13,8 @@ use contents::MEMORY_KIND;
 use contents::faults::first_faulty;
 use contents::sections::entry_of;
 use contents::sections::section;
+use frame::bytes::copy;
 use rig::Decoded;
-use rig::bytes::copy;
 use rig::image::decode;
 use rig::run::MEMORY;
 

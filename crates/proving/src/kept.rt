@@ -7,11 +7,11 @@ ghost use lib.ListN.{length};
 ghost use Rattle.proving.specs.Kept.{lampIn, lampsIn, keptOf, bytesOf, lampFits, lampsFit, isKept};
 ghost use Rattle.lamps.specs.Step.{bit};
 use crate::run::RECORD;
+use frame::bytes::copy;
 use lamps::Follower;
 use lamps::Lamp;
 use lamps::Lamps;
 use lamps::Proving;
-use rig::bytes::copy;
 
 // The number that two bytes make.
 fn pair(high: u8, low: u8) -> u16

@@ -3,29 +3,25 @@
 -- fields give (`candidate-of`, the one law about the layout); the rest holds since what was read is written again and
 -- compared.
 -- Assumes nothing.
-use Prim.Native.Nat.{ℕ, _+_, _*_, _/_, _%_}
+use Prim.Native.Nat.{ℕ}
 use mathlib.Core.Path.{_≡_, refl, sym, ap, _∙_}
 use mathlib.Core.Bool.{true, false, _&&_, and-false}
 use mathlib.Core.List.{List}
 use native.Mathlib.Omega.{arith}
 use lib.ListN.{length, take}
-use Rattle.wire.specs.declared.Side.the-variants.{Memory, Companion}
-use Rattle.wire.specs.declared.Phase.{Phase}
-use Rattle.wire.specs.declared.Phase.the-variants.{Idle, Slave, AddressHigh, AddressLow, Pointer, Write, Read}
 use Rattle.wire.proofs.Tests.{by-test, and-split}
-use Rattle.bus.specs.declared.Power.{Power}
-use Rattle.bus.specs.declared.Power.the-variants.{On, Backup, Off}
 use Rattle.companion.specs.Registers.{registerBytes}
 use Rattle.device.specs.Power.{fresh}
 use Rattle.device.specs.Limits.{wellFormed}
 use Rattle.device.specs.declared.State.{State}
 use Rattle.device.proofs.Wellformed.{fresh-well-formed}
-use Rattle.rig.specs.Layout.{powerNumber, powerOf, transferOf, phaseOf}
-use Rattle.rig.specs.Image.{imageSize, imageOf, calendarAt, candidate, sameBytes, decodeOf}
+use Rattle.frame.specs.Bytes.{sameBytes}
+use Rattle.frame.proofs.Lists.{same-lengths, same-self, same-equal}
+use Rattle.frame.proofs.Back.{power-of-number, phase-of-transfer, address-of-bytes}
+use Rattle.rig.specs.Image.{imageSize, imageOf, calendarAt, candidate, decodeOf}
 use Rattle.rig.specs.Reading.{WrittenBy, DecodeSettled}
 use Rattle.rig.specs.declared.Decoded.{Decoded}
 use Rattle.rig.specs.declared.Decoded.the-variants.{Good, Bad}
-use Rattle.rig.proofs.Lists.{same-lengths, same-self, same-equal}
 
 pub image-length : (s : State) → length (imageOf s) ≡ imageSize
 unfolding imageOf
@@ -35,28 +31,6 @@ image-length s = refl
 pub image-registers : (s : State) → take 15 (imageOf s) ≡ registerBytes (s .companion .registers)
 unfolding imageOf
 image-registers s = refl
-
-power-of-number : (p : Power) → powerOf (powerNumber p) ≡ p
-unfolding powerOf
-power-of-number On = refl
-power-of-number Backup = refl
-power-of-number Off = refl
-
-phase-of-transfer : (p : Phase)
-    → phaseOf (transferOf p .phase) (transferOf p .clocks) (transferOf p .byte) (transferOf p .first) ≡ p
-unfolding phaseOf
-phase-of-transfer Idle = refl
-phase-of-transfer (Slave k b) = refl
-phase-of-transfer (AddressHigh k b) = refl
-phase-of-transfer (AddressLow h k b) = refl
-phase-of-transfer (Pointer k b) = refl
-phase-of-transfer (Write Memory k b) = refl
-phase-of-transfer (Write Companion k b) = refl
-phase-of-transfer (Read Memory k b) = refl
-phase-of-transfer (Read Companion k b) = refl
-
-address-of-bytes : (a : ℕ) → a / 256 * 256 + a % 256 ≡ a
-address-of-bytes a = omega arith
 
 -- a state that writes an image is that image's candidate
 pub candidate-of : (s : State) → candidate (imageOf s) ≡ s

@@ -1,5 +1,4 @@
 -- SPDX-License-Identifier: Apache-2.0
-pub mod Lists
 pub mod Images
 pub mod Runs
 pub mod Views

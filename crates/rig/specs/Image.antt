@@ -2,19 +2,19 @@
 -- The image of a state (01, Entries: "state image (64 bytes) .. The image's first 15 bytes are registers 00h to 0Eh;
 -- the rest is the team's layout, in docs/. Image and state go both ways without loss."). docs/IMAGE.md has the table.
 --   imageSize, mark, imageOf          the 64 bytes that a state writes
---   candidate, sameBytes, decodeOf    the state that an image holds, if a well-formed state writes it
+--   candidate, decodeOf               the state that an image holds, if a well-formed state writes it
 -- Assumes nothing.
 use Prim.Native.Nat.{ℕ, _+_, _*_, _/_, _%_}
-use mathlib.Core.Bool.{Bool, true, false, cond, _&&_}
+use mathlib.Core.Bool.{cond, _&&_}
 use mathlib.Core.List.{List, [], _∷_, _++_}
-use lib.Dec.{eqb}
 use lib.ListN.{getD, replicate}
 use Rattle.calendar.specs.declared.Calendar.{Calendar}
 use Rattle.companion.specs.Registers.{registerBytes, registersOf}
 use Rattle.companion.specs.declared.Companion.{Companion}
 use Rattle.device.specs.Limits.{wellFormed}
 use Rattle.device.specs.declared.State.{State}
-use Rattle.rig.specs.Layout.{powerNumber, powerOf, transferOf, phaseOf}
+use Rattle.frame.specs.Bytes.{sameBytes}
+use Rattle.frame.specs.Layout.{powerNumber, powerOf, transferOf, phaseOf}
 use Rattle.rig.specs.declared.Decoded.{Decoded}
 use Rattle.rig.specs.declared.Decoded.the-variants.{Good, Bad}
 
@@ -69,13 +69,6 @@ candidate i =
       address = getD i 23 0 * 256 + getD i 24 0;
       companion = companionAt i;
     }
-
--- Auxiliary: whether two lists are equal.
-unfoldable pub sameBytes : List ℕ → List ℕ → Bool
-sameBytes [] [] = true
-sameBytes [] (y ∷ ys) = false
-sameBytes (x ∷ xs) [] = false
-sameBytes (x ∷ xs) (y ∷ ys) = eqb x y && sameBytes xs ys
 
 -- The state that an image holds: the candidate, if it is well-formed and writes this very image.
 unfoldable pub decodeOf : List ℕ → Decoded

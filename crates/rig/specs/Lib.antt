@@ -1,5 +1,4 @@
 -- SPDX-License-Identifier: Apache-2.0
-pub mod Layout
 pub mod Image
 pub mod Reading
 pub mod Run

@@ -11,7 +11,6 @@ ghost use Rattle.rig.specs.Run.{allKnown, RanThrough, RunSettled};
 ghost use Rattle.rig.specs.Fresh.{FreshSettled};
 use crate::Decoded;
 use crate::Ran;
-use crate::bytes::copy;
 use crate::image::LENGTH;
 use crate::image::decode;
 use crate::image::image_of;
@@ -23,6 +22,7 @@ use device::numbers::SHORT_ANSWERS;
 use device::numbers::UNKNOWN_EVENT;
 use device::numbers::WRONG_MEMORY;
 use device::numbers::WRONG_STATE;
+use frame::bytes::copy;
 
 // The bytes of memory, as a length.
 pub const MEMORY: usize = MEMORY_SIZE as usize;

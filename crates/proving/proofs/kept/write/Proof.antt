@@ -1,11 +1,11 @@
 use mathlib.Core.Path.{_∙_}
 use borrow.Author.Needs.{needs}
+use Rattle.frame.proofs.bytes.copy.Reads as copy-reads
 use Rattle.proving.proofs.kept.write.Statement.{statement}
 use Rattle.proving.proofs.kept.write.Tie as tie
 use Rattle.proving.proofs.kept.write.Reads as reads
 use Rattle.proving.proofs.kept.write.Lts as lts
 use Rattle.proving.proofs.kept.bytes_of.Reads as bytes-of-reads
-use Rattle.rig.proofs.bytes.copy.Reads as copy-reads
 
 -- src/kept.rt:159:19
 bytes-of-requires : tie.Need-bytes-of-requires

@@ -10,7 +10,8 @@ use borrow.Author.Needs.{needs}
 use borrow.Author.Tests.{not-true, not-false}
 use Rattle.device.specs.Limits.{wellFormed}
 use Rattle.device.specs.declared.State.{State}
-use Rattle.rig.specs.Image.{imageOf, sameBytes}
+use Rattle.frame.specs.Bytes.{sameBytes}
+use Rattle.rig.specs.Image.{imageOf}
 use Rattle.rig.specs.declared.Decoded.the-variants.{Good, Bad}
 use Rattle.rig.proofs.Images.{decode-good, decode-limits, decode-differs, decode-length, decode-settled}
 use Rattle.rig.proofs.image.decode.Statement.{statement}

@@ -11,7 +11,7 @@ use Rattle.wire.specs.declared.Phase.{Phase}
 use Rattle.wire.specs.declared.Phase.the-variants.{Idle, Slave, AddressHigh, AddressLow, Pointer, Write, Read}
 use Rattle.bus.specs.declared.Power.{Power}
 use Rattle.bus.specs.declared.Power.the-variants.{On, Backup, Off}
-use Rattle.rig.specs.declared.Transfer.{Transfer}
+use Rattle.frame.specs.declared.Transfer.{Transfer}
 
 -- Byte 25.
 abbrev pub powerNumber : Power → ℕ

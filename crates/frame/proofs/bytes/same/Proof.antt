@@ -8,10 +8,10 @@ use native.Mathlib.Omega.{arith}
 use denote.Ref.{now}
 use lib.ListN.{length, drop}
 use borrow.Author.Needs.{needs}
-use Rattle.rig.specs.Image.{sameBytes}
-use Rattle.rig.proofs.Lists.{same-lengths, same-more, same-end}
-use Rattle.rig.proofs.bytes.same.Statement.{statement}
-use Rattle.rig.proofs.bytes.same.Tie as tie
+use Rattle.frame.specs.Bytes.{sameBytes}
+use Rattle.frame.proofs.Lists.{same-lengths, same-more, same-end}
+use Rattle.frame.proofs.bytes.same.Statement.{statement}
+use Rattle.frame.proofs.bytes.same.Tie as tie
 
 abbrev Inv-loop : tie.InvT-loop
 Inv-loop a b alike₀ i₀ alike i =

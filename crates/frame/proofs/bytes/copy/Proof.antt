@@ -7,9 +7,9 @@ use native.Mathlib.Omega.{arith}
 use denote.Ref.{now}
 use lib.ListN.{length, take}
 use borrow.Author.Needs.{needs}
-use Rattle.rig.proofs.Lists.{copy-more, copy-done}
-use Rattle.rig.proofs.bytes.copy.Statement.{statement}
-use Rattle.rig.proofs.bytes.copy.Tie as tie
+use Rattle.frame.proofs.Lists.{copy-more, copy-done}
+use Rattle.frame.proofs.bytes.copy.Statement.{statement}
+use Rattle.frame.proofs.bytes.copy.Tie as tie
 
 abbrev Inv-loop : tie.InvT-loop
 Inv-loop from to₀ i₀ to i =

@@ -12,7 +12,7 @@ use lib.ListN.{length, take, drop, getD, set, drop-of-length-le}
 use lib.Seq.{take-all, take-suc, take-suc-set, drop-cons}
 use borrow.Author.Tests.{eq-eqb, eqb-true}
 use Rattle.wire.proofs.Tests.{and-split}
-use Rattle.rig.specs.Image.{sameBytes}
+use Rattle.frame.specs.Bytes.{sameBytes}
 
 module _ (from to : List ℕ) (i : ℕ) where
   pub copy-more : i < length to → i < length from → take i to ≡ take i from

@@ -2,8 +2,8 @@
 -- The four numbers of each phase, at the phase that the match found.
 -- Assumes nothing.
 use borrow.Author.Needs.{needs}
-use Rattle.rig.proofs.layout.transfer_of.Statement.{statement}
-use Rattle.rig.proofs.layout.transfer_of.Tie as tie
+use Rattle.frame.proofs.layout.transfer_of.Statement.{statement}
+use Rattle.frame.proofs.layout.transfer_of.Tie as tie
 
 enum-told : tie.Need-enum-told
 enum-told c = search needs

@@ -2,9 +2,9 @@
 -- Each number's arm is the definition at that number.
 -- Assumes nothing.
 use borrow.Author.Tests.{ne-eqb}
-use Rattle.rig.specs.Layout.{phaseOf}
-use Rattle.rig.proofs.layout.phase_of.Statement.{statement}
-use Rattle.rig.proofs.layout.phase_of.Tie as tie
+use Rattle.frame.specs.Layout.{phaseOf}
+use Rattle.frame.proofs.layout.phase_of.Statement.{statement}
+use Rattle.frame.proofs.layout.phase_of.Tie as tie
 
 returns : tie.Need-returns
 unfolding phaseOf
