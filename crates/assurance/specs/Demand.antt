@@ -12,9 +12,9 @@ use Rattle.wire.specs.declared.Phase.the-variants.{Idle}
 use Rattle.bus.specs.declared.Power.the-variants.{On}
 use Rattle.device.specs.Chip.{fm3130}
 use Rattle.rig.specs.Run.{Ended, runOf}
-use Rattle.isolation.specs.Merge.{eventsOf, picked}
-use Rattle.isolation.specs.Party.{to, isMemory, isCompanion, BusEvent, PartyEvent, Whole}
-use Rattle.isolation.specs.Demand.{Merge}
+use Rattle.merging.specs.Merge.{eventsOf, picked}
+use Rattle.merging.specs.Party.{to, isMemory, isCompanion, BusEvent, PartyEvent, Whole}
+use Rattle.merging.specs.Demand.{Merge}
 use Rattle.isolation.specs.Demand3.{Held, bytesOf, linesOf, WritesSteadyIn}
 use Rattle.assurance.specs.Session.{World, Act, begin, answeredOf, sessionOf}
 

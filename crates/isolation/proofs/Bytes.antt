@@ -8,7 +8,7 @@ use mathlib.Core.List.{List, [], _∷_}
 use native.Mathlib.Omega.{arith}
 use Rattle.wire.specs.Machine.{start, stop, clock, line, tick}
 use Rattle.device.specs.Chip.{fm3130}
-use Rattle.isolation.specs.Party.{BusEvent}
+use Rattle.merging.specs.Party.{BusEvent}
 use Rattle.isolation.specs.Demand3.{byteOf, bytesOf}
 
 -- every byte of the list is below 5: no power event, and none that is unknown

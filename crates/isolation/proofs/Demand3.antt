@@ -16,14 +16,14 @@ use Rattle.companion.specs.declared.Companion.{Companion}
 use Rattle.device.specs.Chip.{fm3130, machineOf, Done, doneOf}
 use Rattle.device.specs.Event.{eventOf, eventOn, happening}
 use Rattle.device.specs.Answer.{answerByte}
-use Rattle.isolation.specs.Merge.{Said, by, eventsOf, keepIf, picked}
-use Rattle.isolation.specs.Party.{isMemory, isCompanion, BusEvent, PartyEvent}
-use Rattle.isolation.specs.Apart.{run, answersOf}
-use Rattle.isolation.specs.Demand.{IfWritten, WritesSteady, Isolated}
 use Rattle.rig.specs.Run.{runOf}
+use Rattle.merging.specs.Merge.{Said, by, eventsOf, keepIf, picked}
+use Rattle.merging.specs.Party.{isMemory, isCompanion, BusEvent, PartyEvent}
+use Rattle.merging.specs.Apart.{run, answersOf}
+use Rattle.merging.specs.Demand.{IfWritten, WritesSteady, Isolated}
+use Rattle.merging.proofs.Demand.{isolation}
 use Rattle.isolation.specs.Demand3.{Held, afterEvent, answerTo, afterEvents, answersTo, byteOf, bytesOf, linesOf}
 use Rattle.isolation.specs.Demand3.{protection, WritesSteadyIn, Demanded, DemandThree}
-use Rattle.isolation.proofs.Demand.{isolation}
 use Rattle.isolation.proofs.Guard.{only-writes}
 
 abbrev Bus : Type 0

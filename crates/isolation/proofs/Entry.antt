@@ -18,8 +18,8 @@ use Rattle.rig.specs.Run.{runOf, outcomeOf}
 use Rattle.rig.specs.Calls.{leftOf}
 use Rattle.rig.proofs.Images.{decode-image}
 use Rattle.rig.proofs.Calls.{leftBy, leaves-run, one-call}
-use Rattle.isolation.specs.Merge.{eventsOf}
-use Rattle.isolation.specs.Party.{PartyEvent}
+use Rattle.merging.specs.Merge.{eventsOf}
+use Rattle.merging.specs.Party.{PartyEvent}
 use Rattle.isolation.specs.Demand3.{Held, bytesOf, Demanded}
 use Rattle.isolation.specs.Example.{memoryList, companionList, mergedList, started}
 use Rattle.isolation.specs.Entry.{bytesAt, DemandedOf, Asked, DemandThreeOfCalls, DemandThreeOfCall}

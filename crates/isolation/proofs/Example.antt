@@ -25,16 +25,17 @@ use Rattle.calendar.specs.Next.{isValid, nextOf, tickOf as countOf}
 use Rattle.companion.specs.Part.{aimOf, storeOf, tickOf}
 use Rattle.device.specs.Chip.{fm3130}
 use Rattle.device.specs.Event.{happening, eventOn}
-use Rattle.isolation.specs.Merge.{calling, moving, eventsOf}
-use Rattle.isolation.specs.Party.{to, BusEvent, Whole}
-use Rattle.isolation.specs.Demand.{WhereWritten, IfWritten, done, one, two, inside, Merge}
 use Rattle.rig.specs.Run.{runOf}
+use Rattle.merging.specs.Merge.{calling, moving, eventsOf}
+use Rattle.merging.specs.Party.{to, BusEvent, Whole}
+use Rattle.merging.specs.Demand.{WhereWritten, IfWritten, done, one, two, inside, Merge}
+use Rattle.merging.specs.Clocks.{clocks, bitsOf}
+use Rattle.merging.proofs.Reader.{moving-clocks}
+use Rattle.merging.proofs.Clocks.{slave-whole, first-clocks, second-clocks}
 use Rattle.isolation.specs.Demand3.{Held, afterEvent, afterEvents, byteOf, bytesOf, protection}
 use Rattle.isolation.specs.Demand3.{WritesSteadyIn, Demanded}
-use Rattle.isolation.specs.Example.{clocks, bitsOf, stored, register, value}
+use Rattle.isolation.specs.Example.{stored, register, value}
 use Rattle.isolation.specs.Example.{memoryList, companionList, mergedList, started}
-use Rattle.isolation.proofs.Reader.{moving-clocks}
-use Rattle.isolation.proofs.Clocks.{slave-whole, first-clocks, second-clocks}
 use Rattle.isolation.proofs.Demand3.{demand-three}
 
 pub memory-whole : Whole fm3130 (to Memory) memoryList

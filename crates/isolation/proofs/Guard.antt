@@ -4,7 +4,7 @@
 -- Assumes nothing.
 use Rattle.companion.proofs.Shown.{tick-guard, aim-guard, loaded-guard}
 use Rattle.device.specs.Chip.{fm3130}
-use Rattle.isolation.specs.Demand.{OnlyWrites}
+use Rattle.merging.specs.Demand.{OnlyWrites}
 
 pub only-writes : OnlyWrites fm3130
 only-writes = record { tick-keeps = λ t. tick-guard; address-keeps = aim-guard; read-keeps = loaded-guard }

@@ -1,16 +1,7 @@
 -- SPDX-License-Identifier: Apache-2.0
-pub mod Reader
-pub mod Stands
-pub mod Own
-pub mod Ends
-pub mod Follows
-pub mod Apart
-pub mod Steady
-pub mod Demand
 pub mod Guard
 pub mod Demand3
 pub mod Bytes
-pub mod Clocks
 pub mod Example
 pub mod Needed
 pub mod Entry

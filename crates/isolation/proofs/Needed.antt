@@ -18,14 +18,15 @@ use Rattle.companion.specs.Part.{aimOf, storeOf, tickOf}
 use Rattle.device.specs.Chip.{fm3130}
 use Rattle.device.specs.Event.{happening, eventOn}
 use Rattle.rig.specs.Run.{runOf}
-use Rattle.isolation.specs.Merge.{calling, moving, eventsOf}
-use Rattle.isolation.specs.Party.{to, Whole}
-use Rattle.isolation.specs.Demand.{done, one, two, Merge}
+use Rattle.merging.specs.Merge.{calling, moving, eventsOf}
+use Rattle.merging.specs.Party.{to, Whole}
+use Rattle.merging.specs.Demand.{done, one, two, Merge}
+use Rattle.merging.specs.Clocks.{clocks, bitsOf}
+use Rattle.merging.proofs.Reader.{moving-clocks}
+use Rattle.merging.proofs.Clocks.{slave-whole, first-clocks, second-clocks}
 use Rattle.isolation.specs.Demand3.{bytesOf, Demanded}
-use Rattle.isolation.specs.Example.{clocks, bitsOf, stored, memoryList, companionList, started}
+use Rattle.isolation.specs.Example.{stored, memoryList, companionList, started}
 use Rattle.isolation.specs.Needed.{protectingList, protectedList, brokenList}
-use Rattle.isolation.proofs.Reader.{moving-clocks}
-use Rattle.isolation.proofs.Clocks.{slave-whole, first-clocks, second-clocks}
 
 pub protecting-whole : Whole fm3130 (to Companion) protectingList
 unfolding pushed sentBit slaveNames

@@ -21,9 +21,9 @@ use Rattle.device.specs.Event.{eventOf}
 use Rattle.device.specs.Answer.{answerByte}
 use Rattle.device.specs.declared.State.{State}
 use Rattle.rig.specs.Run.{runOf}
-use Rattle.isolation.specs.Merge.{eventsOf, picked}
-use Rattle.isolation.specs.Party.{to, isMemory, isCompanion, BusEvent, PartyEvent, Whole}
-use Rattle.isolation.specs.Demand.{Merge, IfWritten}
+use Rattle.merging.specs.Merge.{eventsOf, picked}
+use Rattle.merging.specs.Party.{to, isMemory, isCompanion, BusEvent, PartyEvent, Whole}
+use Rattle.merging.specs.Demand.{Merge, IfWritten}
 
 pub record Held : Type 0 where
   pub state : State

@@ -21,9 +21,9 @@ use Rattle.rig.specs.Image.{decodeOf}
 use Rattle.rig.specs.Run.{outcomeOf}
 use Rattle.rig.specs.Calls.{Left, leftOf, Leaves}
 use Rattle.rig.specs.declared.Decoded.the-variants.{Good}
-use Rattle.isolation.specs.Merge.{eventsOf, picked}
-use Rattle.isolation.specs.Party.{to, isMemory, isCompanion, BusEvent, PartyEvent, Whole}
-use Rattle.isolation.specs.Demand.{Merge}
+use Rattle.merging.specs.Merge.{eventsOf, picked}
+use Rattle.merging.specs.Party.{to, isMemory, isCompanion, BusEvent, PartyEvent, Whole}
+use Rattle.merging.specs.Demand.{Merge}
 use Rattle.isolation.specs.Demand3.{bytesOf, linesOf, WritesSteadyIn}
 
 -- n bytes of an image from a place on (docs/IMAGE.md): the registers are bytes 0 to 14, the core is 15 to 21, the

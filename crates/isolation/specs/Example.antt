@@ -1,40 +1,23 @@
 -- SPDX-License-Identifier: Apache-2.0
 -- A worked merge: a memory transaction that writes 5Ah at 0005h, and a companion transaction that writes 15h to 09h
 -- (alarm seconds), with one tick inside each.
---   clocks, clocksBy, bitsOf                        the nine Clocks of a byte
 --   stored, register, value                         what is written
 --   memoryList, companionList, mergedList           the two lists and their merge
 --   started                                         a running device between transfers, with any memory
 -- Assumes nothing.
 use Prim.Native.Nat.{ℕ}
-use mathlib.Core.Bool.{Bool, true}
+use mathlib.Core.Bool.{Bool}
 use mathlib.Core.List.{List, [], _∷_, _++_}
-use Rattle.wire.specs.Bits.{sentBit}
-use Rattle.wire.specs.Machine.{start, stop, clock, Event, line, tick}
+use Rattle.wire.specs.Machine.{start, stop, line, tick}
 use Rattle.wire.specs.declared.Side.the-variants.{Memory, Companion}
 use Rattle.wire.specs.declared.Phase.the-variants.{Idle}
 use Rattle.bus.specs.declared.Power.the-variants.{On}
 use Rattle.companion.specs.Power.{lostDate}
 use Rattle.device.specs.Chip.{fm3130}
-use Rattle.isolation.specs.Merge.{Said, by}
-use Rattle.isolation.specs.Party.{to, BusEvent, PartyEvent}
+use Rattle.merging.specs.Merge.{by}
+use Rattle.merging.specs.Clocks.{clocks, clocksBy, bitsOf}
+use Rattle.merging.specs.Party.{to, BusEvent, PartyEvent}
 use Rattle.isolation.specs.Demand3.{Held}
-
--- Auxiliary: Clocks with these data lines, before a list; the same of a party.
-abbrev pub clocks : {T : Type 0} → List Bool → List (Event T) → List (Event T)
-clocks [] es = es
-clocks (d ∷ ds) es = line (clock d) ∷ clocks ds es
-
-abbrev pub clocksBy : {I T : Type 0} → I → List Bool → List (Said I T) → List (Said I T)
-clocksBy i [] l = l
-clocksBy i (d ∷ ds) l = by i (line (clock d)) ∷ clocksBy i ds l
-
--- "Bits come high bit first; the ninth clock is the acknowledge": there the master leaves the line high.
-abbrev pub bitsOf : ℕ → List Bool
-bitsOf b =
-    sentBit 0 b ∷ sentBit 1 b ∷ sentBit 2 b ∷ sentBit 3 b
-    ∷ sentBit 4 b ∷ sentBit 5 b ∷ sentBit 6 b ∷ sentBit 7 b
-    ∷ true ∷ []
 
 -- Auxiliary: the two address bytes and the data byte of the memory transaction; the register that the companion
 -- transaction writes, and its data byte.

@@ -8,9 +8,10 @@ use mathlib.Core.List.{List, [], _∷_, _++_}
 use Rattle.wire.specs.Machine.{start, stop, line, tick}
 use Rattle.wire.specs.declared.Side.the-variants.{Memory, Companion}
 use Rattle.device.specs.Chip.{fm3130}
-use Rattle.isolation.specs.Merge.{by}
-use Rattle.isolation.specs.Party.{to, BusEvent, PartyEvent}
-use Rattle.isolation.specs.Example.{clocks, clocksBy, bitsOf, stored, register, value}
+use Rattle.merging.specs.Merge.{by}
+use Rattle.merging.specs.Party.{to, BusEvent, PartyEvent}
+use Rattle.merging.specs.Clocks.{clocks, clocksBy, bitsOf}
+use Rattle.isolation.specs.Example.{stored, register, value}
 
 -- 18h to 0Eh: WP1 WP0 become 11.
 abbrev pub protectingList : List (BusEvent fm3130)

@@ -1,3 +1,2 @@
 // SPDX-License-Identifier: Apache-2.0
-// Laws only: what is done with one of a part's two devices does not touch the other. The statements are in specs/, the
-// theorems in proofs/.
+// Laws only: demand 3 for the FM3130, over the laws of `merging`. The statements are in specs/, the theorems in proofs/.

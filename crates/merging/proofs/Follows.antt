@@ -8,9 +8,9 @@ use mathlib.Core.Bool.{Bool, true, false}
 use mathlib.Core.List.{List, _∷_}
 use Rattle.wire.specs.Machine.{Parts, Line, line, State, Out, Answer, step, answerOf, mastersLine}
 use Rattle.wire.specs.declared.Side.the-variants.{Memory, Companion}
-use Rattle.isolation.specs.Merge.{by, eventsOf, picked, listOf}
-use Rattle.isolation.specs.Party.{Party, to, foreign, isMemory, isCompanion, isForeign, BusEvent, PartyEvent}
-use Rattle.isolation.specs.Apart.{masters, run, answersOf, Follows, KeptApart}
+use Rattle.merging.specs.Merge.{by, eventsOf, picked, listOf}
+use Rattle.merging.specs.Party.{Party, to, foreign, isMemory, isCompanion, isForeign, BusEvent, PartyEvent}
+use Rattle.merging.specs.Apart.{masters, run, answersOf, Follows, KeptApart}
 
 module _ (P : Parts) where
   module _ (mine : Party → Bool) {Y Z : Type 0} (part : State P → Y) (look : Answer P → Z) where

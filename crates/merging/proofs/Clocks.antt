@@ -8,11 +8,11 @@ use mathlib.Core.List.{List, [], _∷_}
 use Rattle.wire.specs.Bits.{pushed, sentBit}
 use Rattle.wire.specs.Machine.{Parts, clock, line}
 use Rattle.wire.specs.declared.Side.the-variants.{Memory, Companion}
-use Rattle.isolation.specs.Merge.{Reader, between, calling, moving, next}
-use Rattle.isolation.specs.Party.{Party, to, MayName, BusEvent, PartyEvent, WholeFrom}
-use Rattle.isolation.specs.Demand.{MergeFrom, one, two}
-use Rattle.isolation.specs.Example.{clocks, clocksBy, bitsOf}
-use Rattle.isolation.proofs.Reader.{eight-clocks}
+use Rattle.merging.specs.Merge.{Reader, between, calling, moving, next}
+use Rattle.merging.specs.Party.{Party, to, MayName, BusEvent, PartyEvent, WholeFrom}
+use Rattle.merging.specs.Demand.{MergeFrom, one, two}
+use Rattle.merging.specs.Clocks.{clocks, clocksBy, bitsOf}
+use Rattle.merging.proofs.Reader.{eight-clocks}
 
 -- where a reader stands after some clocks
 abbrev pub readClocks : Reader → List Bool → Reader

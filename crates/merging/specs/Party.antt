@@ -15,7 +15,7 @@ use Rattle.wire.specs.declared.Side.{Side}
 use Rattle.wire.specs.declared.Side.the-variants.{Memory, Companion}
 use Rattle.wire.specs.declared.Named.{Named}
 use Rattle.wire.specs.declared.Named.the-variants.{Nobody, Reads, Writes}
-use Rattle.isolation.specs.Merge.{Reader, between, next, MayStand, Said, Merged}
+use Rattle.merging.specs.Merge.{Reader, between, next, MayStand, Said, Merged}
 
 pub data Party : Type 0 where
   to : Side → Party

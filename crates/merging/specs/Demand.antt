@@ -15,9 +15,9 @@ use Rattle.wire.specs.Machine.{Parts, Line, start, stop, clock, Event, line, ti
 use Rattle.wire.specs.declared.Side.the-variants.{Memory, Companion}
 use Rattle.wire.specs.declared.Phase.{Phase}
 use Rattle.wire.specs.declared.Phase.the-variants.{Idle, Slave, AddressHigh, AddressLow, Pointer, Write, Read}
-use Rattle.isolation.specs.Merge.{Reader, between, next, by, eventsOf, picked}
-use Rattle.isolation.specs.Party.{to, isMemory, isCompanion, BusEvent, PartyEvent}
-use Rattle.isolation.specs.Apart.{run, answersOf}
+use Rattle.merging.specs.Merge.{Reader, between, next, by, eventsOf, picked}
+use Rattle.merging.specs.Party.{to, isMemory, isCompanion, BusEvent, PartyEvent}
+use Rattle.merging.specs.Apart.{run, answersOf}
 
 -- Auxiliary: what is asked only where a data byte is written to the companion; and of an event, if it is such a Clock.
 abbrev pub WhereWritten : Phase → Type 0 → Type 0

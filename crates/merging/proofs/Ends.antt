@@ -8,11 +8,11 @@ use Rattle.wire.specs.Machine.{Parts, line, tick, State, step}
 use Rattle.wire.specs.declared.Side.the-variants.{Memory, Companion}
 use Rattle.wire.specs.declared.Phase.{Phase}
 use Rattle.wire.specs.declared.Phase.the-variants.{Idle}
-use Rattle.isolation.specs.Merge.{Reader, between, next, eventsOf}
-use Rattle.isolation.specs.Party.{Party, to, BusEvent, PartyEvent, WholeFrom, Whole}
-use Rattle.isolation.specs.Apart.{run}
-use Rattle.isolation.specs.Demand.{MergeFrom, done, one, two, inside, Merge}
-use Rattle.isolation.proofs.Stands.{Stands, stands-next}
+use Rattle.merging.specs.Merge.{Reader, between, next, eventsOf}
+use Rattle.merging.specs.Party.{Party, to, BusEvent, PartyEvent, WholeFrom, Whole}
+use Rattle.merging.specs.Apart.{run}
+use Rattle.merging.specs.Demand.{MergeFrom, done, one, two, inside, Merge}
+use Rattle.merging.proofs.Stands.{Stands, stands-next}
 
 module _ (P : Parts) where
   whole-ends : (i : Party) (q : Reader) (s : State P) (es : List (BusEvent P)) → WholeFrom P i q es

@@ -8,13 +8,13 @@ use mathlib.Core.List.{List, _∷_}
 use Rattle.wire.specs.Machine.{Parts, line, tick, State}
 use Rattle.wire.specs.declared.Side.the-variants.{Memory, Companion}
 use Rattle.wire.specs.declared.Phase.the-variants.{Idle}
-use Rattle.isolation.specs.Merge.{Reader, between, by, turn, bus, ticks, listOf}
-use Rattle.isolation.specs.Merge as Merge
-use Rattle.isolation.specs.Party.{Party, to, isMemory, isCompanion, BusEvent, PartyEvent, Fair, WholeFrom, Whole}
-use Rattle.isolation.specs.Apart.{KeptApart}
-use Rattle.isolation.specs.Demand.{OnlyWrites, MergeFrom, done, one, two, inside, Merge, WritesSteady, Isolated}
-use Rattle.isolation.proofs.Apart.{apart}
-use Rattle.isolation.proofs.Steady.{steady-of-writes}
+use Rattle.merging.specs.Merge.{Reader, between, by, turn, bus, ticks, listOf}
+use Rattle.merging.specs.Merge as Merge
+use Rattle.merging.specs.Party.{Party, to, isMemory, isCompanion, BusEvent, PartyEvent, Fair, WholeFrom, Whole}
+use Rattle.merging.specs.Apart.{KeptApart}
+use Rattle.merging.specs.Demand.{OnlyWrites, MergeFrom, done, one, two, inside, Merge, WritesSteady, Isolated}
+use Rattle.merging.proofs.Apart.{apart}
+use Rattle.merging.proofs.Steady.{steady-of-writes}
 
 module _ (P : Parts) where
   handed : (i j : Party) (q : Reader) (l : List (PartyEvent P)) → Fair P i q l → q ≡ between → Fair P j between l

@@ -15,9 +15,9 @@ use lib.Dec.{eqb, ltb}
 use borrow.Author.Tests.{ltb-true, ltb-false, eqb-true, eqb-false}
 use Rattle.wire.specs.Bits.{pushed, Place, first, within, last, ack, placeAt}
 use Rattle.wire.specs.Machine.{Parts, Line, start, stop, clock, line, tick}
-use Rattle.isolation.specs.Merge.{Reader, between, calling, moving, onward, next}
-use Rattle.isolation.specs.Party.{Party, MayName, BusEvent, WholeFrom, Whole}
-use Rattle.isolation.specs.Example.{clocks}
+use Rattle.merging.specs.Merge.{Reader, between, calling, moving, onward, next}
+use Rattle.merging.specs.Party.{Party, MayName, BusEvent, WholeFrom, Whole}
+use Rattle.merging.specs.Clocks.{clocks}
 
 -- fewer than eight clocks of a slave byte were seen
 abbrev pub Early : Reader → Type 0

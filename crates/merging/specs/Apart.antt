@@ -9,8 +9,8 @@ use mathlib.Core.Path.{_≡_}
 use mathlib.Core.Bool.{Bool, true}
 use mathlib.Core.List.{List, [], _∷_}
 use Rattle.wire.specs.Machine.{Parts, Line, start, stop, clock, Event, line, tick, State, Answer, step, answerOf, mastersLine}
-use Rattle.isolation.specs.Merge.{eventsOf, picked, listOf}
-use Rattle.isolation.specs.Party.{Party, isMemory, isCompanion, isForeign, BusEvent, PartyEvent}
+use Rattle.merging.specs.Merge.{eventsOf, picked, listOf}
+use Rattle.merging.specs.Party.{Party, isMemory, isCompanion, isForeign, BusEvent, PartyEvent}
 
 -- 01, Event bytes and answer bytes: "for a Clock, low if the master or the device pulls it low; for other events 1";
 -- here by the master alone.

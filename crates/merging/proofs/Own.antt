@@ -14,9 +14,9 @@ use Rattle.wire.specs.Machine.{Parts, Line, start, stop, clock, Out, out, neith
 use Rattle.wire.specs.declared.Side.the-variants.{Memory, Companion}
 use Rattle.wire.specs.declared.Phase.{Phase}
 use Rattle.wire.specs.declared.Phase.the-variants.{Idle, Slave, AddressHigh, AddressLow, Pointer, Write, Read}
-use Rattle.isolation.specs.Merge.{Reader, between, calling, moving, Calls, MayStand}
-use Rattle.isolation.specs.Party.{to, foreign}
-use Rattle.isolation.proofs.Stands.{Byte, Serves, Stands}
+use Rattle.merging.specs.Merge.{Reader, between, calling, moving, Calls, MayStand}
+use Rattle.merging.specs.Party.{to, foreign}
+use Rattle.merging.proofs.Stands.{Byte, Serves, Stands}
 
 module _ (P : Parts) where
   -- an outcome with another device in the place of the one that was not handed over

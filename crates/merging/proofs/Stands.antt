@@ -17,8 +17,8 @@ use Rattle.wire.specs.declared.Named.{Named}
 use Rattle.wire.specs.declared.Named.the-variants.{Nobody, Reads, Writes}
 use Rattle.wire.specs.declared.Phase.{Phase}
 use Rattle.wire.specs.declared.Phase.the-variants.{Idle, Slave, AddressHigh, AddressLow, Pointer, Write, Read}
-use Rattle.isolation.specs.Merge.{Reader, between, calling, moving, onward, next, Calls, MayStand}
-use Rattle.isolation.specs.Party.{Party, to, foreign, Same, MayName}
+use Rattle.merging.specs.Merge.{Reader, between, calling, moving, onward, next, Calls, MayStand}
+use Rattle.merging.specs.Party.{Party, to, foreign, Same, MayName}
 
 -- a byte of any kind leads only to its own phases, to the one after it, or to none
 module _ (X : Phase → Type 0) (idle : X Idle) where

@@ -14,9 +14,9 @@ use Rattle.wire.specs.declared.Side.the-variants.{Memory, Companion}
 use Rattle.wire.specs.declared.Phase.{Phase}
 use Rattle.wire.specs.declared.Phase.the-variants.{Idle, Slave, AddressHigh, AddressLow, Pointer, Write, Read}
 use Rattle.wire.proofs.Desk.{received-part, sent-part}
-use Rattle.isolation.specs.Party.{BusEvent}
-use Rattle.isolation.specs.Apart.{Steady}
-use Rattle.isolation.specs.Demand.{WhereWritten, IfWritten, OnlyWrites, WritesSteady}
+use Rattle.merging.specs.Party.{BusEvent}
+use Rattle.merging.specs.Apart.{Steady}
+use Rattle.merging.specs.Demand.{WhereWritten, IfWritten, OnlyWrites, WritesSteady}
 
 module _ (P : Parts) (only : OnlyWrites P) where
   abbrev Keeps : P .Desk → P .Desk → Type 0

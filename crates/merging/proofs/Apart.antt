@@ -10,12 +10,12 @@ use Rattle.wire.specs.Machine.{Parts, line, tick, State, Out, out, lined, maste
 use Rattle.wire.specs.declared.Side.the-variants.{Memory, Companion}
 use Rattle.wire.specs.declared.Phase.{Phase}
 use Rattle.wire.specs.declared.Phase.the-variants.{Idle}
-use Rattle.isolation.specs.Merge.{Reader, between, listOf, done, turn, bus, ticks}
-use Rattle.isolation.specs.Party.{Party, to, foreign, isMemory, isCompanion, PartyEvent, Fair}
-use Rattle.isolation.specs.Apart.{Steady, KeptApart}
-use Rattle.isolation.proofs.Stands.{Stands, stands-next}
-use Rattle.isolation.proofs.Own.{withDesk, withCells, memory-own, companion-own, foreign-own}
-use Rattle.isolation.proofs.Follows.{by-memory, by-companion, by-foreign}
+use Rattle.merging.specs.Merge.{Reader, between, listOf, done, turn, bus, ticks}
+use Rattle.merging.specs.Party.{Party, to, foreign, isMemory, isCompanion, PartyEvent, Fair}
+use Rattle.merging.specs.Apart.{Steady, KeptApart}
+use Rattle.merging.proofs.Stands.{Stands, stands-next}
+use Rattle.merging.proofs.Own.{withDesk, withCells, memory-own, companion-own, foreign-own}
+use Rattle.merging.proofs.Follows.{by-memory, by-companion, by-foreign}
 
 -- the phase of a device's run alone, by whether it is its turn
 abbrev alone : Bool → Phase → Phase

@@ -1,0 +1,10 @@
+-- SPDX-License-Identifier: Apache-2.0
+pub mod Reader
+pub mod Stands
+pub mod Own
+pub mod Ends
+pub mod Follows
+pub mod Apart
+pub mod Steady
+pub mod Demand
+pub mod Clocks
