@@ -72,7 +72,7 @@ lib: archives ## the proved archives: build/native (this machine), build/officia
 	@$(call pkg_config,$${pcfiledir}/../../include,$${pcfiledir}) >build/lib/fm3130.pc
 
 archives:
-	@for crate in $(ARCHIVES); do tools/native-archive.sh "$$crate"; done
+	@tools/native-archives.sh $(ARCHIVES)
 
 install: lib ## the library for C: header, archive and fm3130.pc below DESTDIR and PREFIX
 	@install -d "$(DESTDIR)$(PREFIX)/include" "$(DESTDIR)$(PREFIX)/lib/pkgconfig"

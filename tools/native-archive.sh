@@ -1,6 +1,7 @@
 #!/bin/sh
 # SPDX-License-Identifier: Apache-2.0
-# native-archive.sh CRATE: compiles a proved crate for the machine at hand.
+# native-archive.sh [--stale] CRATE: compiles a proved crate for the machine at hand. With --stale it
+# only prints the crate's name, where there is something to do.
 #
 # `rt staticlib` proves a crate, lowers it to one LLVM module and has the kit's clang compile that
 # module for x86-64, on every machine. Here `rt` is given a kit of links whose clang is a small
@@ -14,38 +15,24 @@
 #   build/native/CRATE.stamp    a sum over all that these were made from
 #   build/log/CRATE.txt         what the prover and the compiler said
 #
-# Nothing is done while the stamp still fits. Exported functions must take integers and slices and
-# return at most two words: a larger struct is returned in another way on each kind of machine.
+# Nothing is done while the stamp still fits. Two of these may run at once in one repository, for two
+# crates, if all that stands below them is proved (native-archives.sh sees to that).
+#
+# Exported functions must take integers and slices and return at most two words: a larger struct is
+# returned in another way on each kind of machine.
 set -eu
 
 fail() { printf 'native-archive: %s\n' "$*" >&2; exit 1; }
 
-[ $# -eq 1 ] || fail "usage: native-archive.sh CRATE"
+ask=''
+[ "${1:-}" != --stale ] || { ask=yes; shift; }
+[ $# -eq 1 ] || fail "usage: native-archive.sh [--stale] CRATE"
 crate=$1
 cd "$(dirname "$0")/.."
 kit=$(tools/kit.sh)
 machine=$(uname -m)
 
 # ---- what the archive is made from
-
-# Prints the crate and each crate of the repository below it, one to a line.
-crates_below() { # CRATE
-    awk -v wanted="$1" '
-        function visit(name,    below, count, i) {
-            if (!(name in needs) || name in seen) return
-            seen[name] = 1
-            print name
-            count = split(needs[name], below, " ")
-            for (i = 1; i <= count; i++) visit(below[i])
-        }
-        { sub(/#.*/, "") }
-        /:/ {
-            name = substr($0, 1, index($0, ":") - 1)
-            gsub(/[ \t]/, "", name)
-            needs[name] = substr($0, index($0, ":") + 1)
-        }
-        END { visit(wanted) }' crates.txt
-}
 
 # Prints one sum over the kit, the machine, the tools and the files of the crates.
 sum_of() { # CRATE...
@@ -62,8 +49,7 @@ sum_of() { # CRATE...
     } | sha256sum | cut -d' ' -f1
 }
 
-[ -f crates.txt ] || fail "there is no crates.txt at the repository's top"
-below=$(crates_below "$crate")
+below=$(tools/crates-below.sh "$crate")
 [ -n "$below" ] || fail "crates.txt does not list $crate"
 
 official=build/official/lib$crate.a
@@ -75,9 +61,10 @@ log=build/log/$crate.txt
 # shellcheck disable=SC2086 # one word a crate
 sum=$(sum_of $below)
 if [ -f "$official" ] && [ -f "$module" ] && [ -f "$native" ] && [ "$(cat "$stamp" 2>/dev/null)" = "$sum" ]; then
-    echo "native-archive: $native is up to date"
+    echo "native-archive: $native is up to date" >&2
     exit 0
 fi
+[ -z "$ask" ] || { echo "$crate"; exit 0; }
 
 # ---- a kit of links whose clang keeps the module
 
@@ -120,6 +107,17 @@ exec "$tools/real/clang" "$@"
 CLANG
 chmod +x "$work/kit/$tools/bin/clang"
 
+# ---- a repository of links
+
+# `rt staticlib` notes of each crate below, in target/log, first that it failed and then that it is
+# proved, and reads that back: two at once could read each other's notes. So each has a target/ of its
+# own, but for what is proved.
+mkdir -p target/rlib target/stamp "$work/top/target"
+cp crates.txt "$work/top/crates.txt"
+ln -s "$PWD/crates" "$work/top/crates"
+ln -s "$PWD/target/rlib" "$PWD/target/stamp" "$work/top/target/"
+made=$work/top/target/staticlib/lib$crate.a
+
 # ---- the two archives
 
 # Runs a command that writes to the log; where it fails, shows the log and ends.
@@ -130,7 +128,7 @@ logged() { # WHAT COMMAND...
 }
 
 : >"$log"
-logged "rt staticlib" env RATTLE_HOME="$work/kit" rt staticlib "$crate"
+logged "rt staticlib" env -C "$work/top" RATTLE_HOME="$work/kit" rt staticlib "$crate"
 kept=$work/kit/$tools/kept.bc
 [ -f "$kept" ] || fail "rt staticlib $crate compiled no LLVM module: nothing to make a native archive from"
 
@@ -144,14 +142,14 @@ compile_for() { # MACHINE OBJECT
 # Compiled for x86-64, the module must be the official object byte for byte: so it is the module
 # that the archive was made from, and the options above are enough to make the same code.
 compile_for x86_64 "$work/x86_64.o"
-"$kit/$tools/bin/llvm-ar" p "target/staticlib/lib$crate.a" >"$work/official.o"
+"$kit/$tools/bin/llvm-ar" p "$made" >"$work/official.o"
 cmp -s "$work/x86_64.o" "$work/official.o" ||
     fail "$crate: the module compiled here for x86-64 is not the official object: has the kit's compile line changed?"
 
 compile_for "$machine" "$work/$crate.o"
 logged "llvm-ar" "$kit/$tools/bin/llvm-ar" rcs "$work/lib$crate.a" "$work/$crate.o"
 
-cp "target/staticlib/lib$crate.a" "$official"
+cp "$made" "$official"
 cat "$kept" >"$module" # the compiler's own copy is for its owner alone
 mv "$work/lib$crate.a" "$native"
 echo "$sum" >"$stamp"
