@@ -13,7 +13,9 @@
 
 mod counting;
 mod plain;
+mod plain_sleep;
 mod report;
+mod sameness;
 mod sides;
 mod sleeping;
 mod timing;

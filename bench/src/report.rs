@@ -89,15 +89,17 @@ pub fn calls(nanoseconds: &[[f64; 2]]) -> String {
 /// A leap year of ticks in one call, by the alarm that is set.
 pub fn sleeps(slept: &[Slept]) -> String {
     let mut table = String::from(
-        "| alarm | proved, ns a call | plain Rust, ns a call | a call for no tick, ns | an empty list run, ns | the ticks one by one, ms |\n\
-         |---|---|---|---|---|---|\n",
+        "| alarm | proved, ns a call | plain Rust, ns a call | proved / plain Rust | day numbers alone, ns | a call for no tick, ns | an empty list run, ns | the ticks one by one, ms |\n\
+         |---|---|---|---|---|---|---|---|\n",
     );
     for sleep in slept {
         table += &format!(
-            "| {} | {:.0} | {:.0} | {:.0} | {:.0} | {:.0} |\n",
+            "| {} | {:.0} | {:.0} | {:.2} | {:.0} | {:.0} | {:.0} | {:.0} |\n",
             sleep.alarm,
             sleep.proved,
             sleep.plain,
+            sleep.proved / sleep.plain,
+            sleep.bare,
             sleep.none,
             sleep.empty,
             sleep.single / 1.0e6

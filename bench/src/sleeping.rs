@@ -1,7 +1,8 @@
 // SPDX-License-Identifier: Apache-2.0
-//! A leap year of ticks in one call, beside a plain Rust program with day arithmetic of its own, and beside the ticks one by
-//! one.
+//! A leap year of ticks in one call, beside two plain Rust programs with day arithmetic of their own, and beside the ticks
+//! one by one.
 
+use crate::{plain_sleep, sameness};
 use compare::archive;
 use second::{day_numbers, MEMORY_BYTES};
 use std::hint::black_box;
@@ -58,7 +59,10 @@ const ALARMS: [Alarm; 5] = [
 pub struct Slept {
     pub alarm: &'static str,
     pub proved: f64,
+    /// The plain program that does the same work, from an image to an image.
     pub plain: f64,
+    /// The second program's day numbers: registers and core, no image.
+    pub bare: f64,
     pub single: f64,
     /// A call for no tick: the image is read, tested and written, and the table is made.
     pub none: f64,
@@ -109,8 +113,18 @@ fn empty(image: &[u8; IMAGE_BYTES]) -> [u8; IMAGE_BYTES] {
     after
 }
 
-/// The plain program, which takes registers and core and tests nothing.
+/// The plain program that does the same work: the image read, tested and written.
 fn plain(image: &[u8; IMAGE_BYTES]) -> [u8; IMAGE_BYTES] {
+    let mut after = *image;
+    assert_eq!(
+        plain_sleep::catch_up(&mut after, u64::from(black_box(TICKS))),
+        0
+    );
+    after
+}
+
+/// The second program's day numbers, which take registers and core and test nothing else.
+fn bare(image: &[u8; IMAGE_BYTES]) -> [u8; IMAGE_BYTES] {
     let mut after = *image;
     let (registers, rest) = after.split_first_chunk_mut().expect("15 bytes of 64");
     let core = rest.first_chunk_mut().expect("7 bytes of 49");
@@ -148,22 +162,28 @@ fn time<const SIDES: usize>(sides: [Call; SIDES], image: &[u8; IMAGE_BYTES]) -> 
     fastest
 }
 
-/// Times every alarm, after seeing that all three leave the same image.
+/// Times every alarm, after seeing that the two programs that take images do the same on many, and that all leave the same
+/// image here.
 pub fn all() -> Vec<Slept> {
+    let (accepted, rung) = sameness::check(sameness::IMAGES);
+    assert!(accepted < sameness::IMAGES && 0 < rung);
     ALARMS
         .iter()
         .map(|alarm| {
             let image = image_with(alarm);
             let after = proved(&image);
             assert_eq!(after, plain(&image), "{}", alarm.about);
+            assert_eq!(after, bare(&image), "{}", alarm.about);
             let began = Instant::now();
             assert_eq!(after, single_ticks(&image), "{}", alarm.about);
             let single = began.elapsed().as_nanos() as f64;
-            let [proved, plain, none, empty] = time([proved, plain, none, empty], &image);
+            let [proved, plain, bare, none, empty] =
+                time([proved, plain, bare, none, empty], &image);
             Slept {
                 alarm: alarm.about,
                 proved,
                 plain,
+                bare,
                 single,
                 none,
                 empty,
