@@ -16,7 +16,7 @@ use Rattle.calendar.specs.Field.{value, bcd}
 use Rattle.calendar.proofs.Field.{value-bcd, bcd-value, bcd-digit}
 use Rattle.sleep.specs.declared.search.Stretch.{Stretch}
 use Rattle.companion.specs.Map.{MATCH}
-use Rattle.sleep.specs.Search.{passes, Asks, Some, Narrowed}
+use Rattle.sleep.specs.Search.{passes, Asks, Some, Narrowed, Skips}
 
 -- no number has digits that are none
 pub asks-none : (a : ℕ) → 9 < a % 128 % 16 → Asks a 255
@@ -57,6 +57,22 @@ one-passes a n x k h e = sym (passes-is a n x k h) ∙ rw (eq-eqb n x (sym e)) (
     or-true : (b : Bool) → b || true ≡ true
     or-true true = refl
     or-true false = refl
+
+-- the next month to look at: the one after, or the next one of the name asked for
+pub skips-none : (a month : ℕ) → Skips a month (month + 1)
+skips-none a month =
+    record { after = omega arith; most = omega arith; none = λ k h l p. omega arith }
+
+skips-name : (month n k : ℕ) → n ≤ 255 → k % 12 + 1 ≡ n → month < k → k < month + 12 - (month + 265 - n) % 12 → ⊥
+skips-name month n k l e h u = omega arith
+
+pub skips-one : (a n month : ℕ) → Asks a n → has a MATCH ≡ false → Skips a month (month + 12 - (month + 265 - n) % 12)
+skips-one a n month k m =
+    record {
+      after = omega arith;
+      most = omega arith;
+      none = λ j h l p. skips-name month n j (k .least) (passes-one a n (j % 12 + 1) k (omega arith) m p) h l;
+    }
 
 abbrev pub stretch : ℕ → ℕ → Stretch
 stretch lo hi = record { from = lo; to = hi }

@@ -16,7 +16,7 @@ use Rattle.calendar.specs.After.{after}
 use Rattle.calendar.specs.declared.Calendar.{Calendar}
 use Rattle.calendar.specs.Field.{value}
 use Rattle.calendar.proofs.Valid.{valid-facts}
-use Rattle.century.proofs.Instants.{instant-below}
+use Rattle.century.proofs.Instants.{instant-below, month-start-before}
 use Rattle.days.specs.Places.{InMonth, dayOfSecond, calendarAt}
 use Rattle.days.specs.After.{mostTicks}
 use Rattle.days.proofs.Months.{in-month-unique, month-exists}
@@ -25,7 +25,7 @@ use Rattle.companion.specs.declared.Alarm.{Alarm}
 use Rattle.sleep.specs.declared.search.Stretch.{Stretch}
 use Rattle.companion.specs.Map.{MATCH}
 use Rattle.companion.specs.Tick.{agrees, matches}
-use Rattle.sleep.specs.Search.{passes, Asks, Some, Tells, DayRings, Narrowed}
+use Rattle.sleep.specs.Search.{passes, Asks, Some, Tells, DayRings, Narrowed, Skips}
 use Rattle.sleep.specs.Ticks.{rungWithin}
 use Rattle.sleep.proofs.Narrow.{passes-any, passes-one, one-passes}
 
@@ -141,6 +141,39 @@ none-more a first day to month before here d l h k r = by-day (ltb d day) refl
     by-day : (b : Bool) → ltb d day ≡ b → ⊥
     by-day true e = before d l (ltb-true d day e) k r
     by-day false e = here (record { at = d; from = ltb-false d day e; to = k; holds = (h, r) })
+
+-- a day from the end of one month to the start of another is in a month between them
+between-from : (d month k : ℕ) → InMonth d k → monthStart (month + 1) ≤ d → month < k
+between-from d month k m h = by-order (ltb month k) refl
+  where
+    by-order : (b : Bool) → ltb month k ≡ b → month < k
+    by-order true e = ltb-true month k e
+    by-order false e =
+        let l = ltb-false month k e in
+        absurd (omega (arith, month-start-before k (month + 1) (omega arith), m .to))
+
+between-to : (d later k : ℕ) → InMonth d k → 0 < later → d < monthStart later → k < later
+between-to d later k m p h = by-order (ltb k later) refl
+  where
+    by-order : (b : Bool) → ltb k later ≡ b → k < later
+    by-order true e = ltb-true k later e
+    by-order false e =
+        let l = ltb-false k later e in
+        let s : later - 1 + 1 ≡ later = omega arith in
+        absurd (omega (arith, month-start-before (later - 1) k (omega arith), ap monthStart s, m .from))
+
+-- and those of the months that are passed over
+pub none-skipped :
+    (a : Alarm) (first day to month later : ℕ) → ((d : ℕ) → first ≤ d → d < day → d < to → DayRings a d → ⊥)
+    → (Some (RingsIn a month) day to → ⊥) → Skips (a .month) month later
+    → (d : ℕ) → first ≤ d → d < monthStart later → d < to → DayRings a d → ⊥
+none-skipped a first day to month later before here s d l h k r = by-month (ltb d (monthStart (month + 1))) refl
+  where
+    by-month : (b : Bool) → ltb d (monthStart (month + 1)) ≡ b → ⊥
+    by-month true e = none-more a first day to month before here d l (ltb-true d (monthStart (month + 1)) e) k r
+    by-month false e =
+        s .none (r .month) (between-from d month (r .month) (r .inMonth) (ltb-false d (monthStart (month + 1)) e))
+        (between-to d later (r .month) (r .inMonth) (omega (arith, s .after)) h) (r .name)
 
 -- all days told
 pub tells-none :

@@ -6,6 +6,7 @@
 --   Some P lo hi         some number from lo to below hi has the property P
 --   Tells r A            the test r tells whether A
 --   DayRings a d         the date and the month of the day d pass
+--   Skips a k j          j is a later month than k, and those between do not pass
 --   Narrowed a b s r     r are the minutes (hours, days) in which some second (minute, hour) of s passes
 -- Assumes nothing.
 use Prim.Native.Nat.{ℕ, _+_, _-_, _/_, _%_, _≤_, _<_}
@@ -41,6 +42,11 @@ pub record DayRings (a : Alarm) (d : ℕ) : Type 0 where
   pub inMonth : InMonth d month
   pub date : passes (a .date) (d - monthStart month + 1) ≡ true
   pub name : passes (a .month) (month % 12 + 1) ≡ true
+
+pub record Skips (alarm month later : ℕ) : Type 0 where
+  pub after : month < later
+  pub most : later ≤ month + 12
+  pub none : (k : ℕ) → month < k → k < later → passes alarm (k % 12 + 1) ≡ true → ⊥
 
 pub record Narrowed (alarm span : ℕ) (s r : Stretch) : Type 0 where
   pub most : r .to ≤ s .to / span + 1

@@ -1,6 +1,7 @@
 // SPDX-License-Identifier: Apache-2.0
 // Whether one of many seconds rings the alarm, without looking at each. The seconds of a stretch that pass lie in a
-// stretch of minutes, those in a stretch of hours, those in a stretch of days; the days are looked at month by month.
+// stretch of minutes, those in a stretch of hours, those in a stretch of days; the days are looked at month by month, and
+// months of another name than the one asked for are passed over.
 ghost use mathlib.Core.Path.{_≡_};
 ghost use mathlib.Core.Bool.{_&&_};
 ghost use Prim.Native.Nat.{_+_, _≤_, _<_};
@@ -10,7 +11,7 @@ ghost use Rattle.calendar.specs.Instant.{monthStart};
 ghost use Rattle.days.specs.Table.{IsTable};
 ghost use Rattle.days.specs.Places.{InMonth};
 ghost use Rattle.days.specs.After.{mostTicks};
-ghost use Rattle.sleep.specs.Search.{passes, Asks, Some, Tells, DayRings, Narrowed};
+ghost use Rattle.sleep.specs.Search.{passes, Asks, Some, Tells, DayRings, Narrowed, Skips};
 ghost use Rattle.sleep.specs.Ticks.{rungWithin};
 use calendar::Calendar;
 use companion::Alarm;
@@ -95,9 +96,22 @@ fn rings_in(starts: &[u16; 1200], alarm: Alarm, month: usize, from: u32, to: u32
     (from < end) & (end <= month_start(starts, month + 1)) & (end <= to)
 }
 
+// The next month to look at: the one after, or, where a month of the year is asked for, the next of that name. A number
+// asked for is at most 255, and 264 is whole years.
+fn next_month(alarm: u8, month: usize) -> usize
+    requires { ⌜ month < 2400 ⌝ }
+    ensures { λ r. ⌜ Skips alarm month r ⌝ }
+{
+    if has(alarm, MATCH) {
+        return month + 1;
+    }
+    let past = (month + 265 - asked(alarm) as usize) % 12;
+    month + 12 - past
+}
+
 // Whether one of some days rings, month by month.
 fn rings_on(starts: &[u16; 1200], alarm: Alarm, days: Stretch) -> bool
-    requires { ⌜ (IsTable (now starts)) × (days .to ≤ 73000) ⌝ }
+    requires { ⌜ (IsTable (now starts)) × (days .to ≤ 72000) ⌝ }
     ensures { λ r. ⌜ Tells r (Some (DayRings alarm) (days .from) (days .to)) ⌝ }
 {
     let to = days.to;
@@ -110,7 +124,7 @@ fn rings_on(starts: &[u16; 1200], alarm: Alarm, days: Stretch) -> bool
         if rings_in(starts, alarm, month, day, to) {
             return true;
         }
-        month += 1;
+        month = next_month(alarm.month, month);
         day = month_start(starts, month);
     }
     false
