@@ -8,7 +8,7 @@
 //! * [`traffic`]: the lists of events.
 //! * [`sides`]: the programs; [`plain`] is the one in Rust that is written for speed.
 //! * [`timing`], [`counting`]: the clock, and instructions by valgrind.
-//! * [`sleeping`]: many ticks in one call.
+//! * [`sleeping`]: many ticks in one call; [`plain_sleep`] is the same work by a plain program, and [`sameness`] sees that it is.
 //! * [`report`]: the tables.
 
 mod counting;
