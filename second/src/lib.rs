@@ -10,7 +10,8 @@
 //! * [`calendar`]: the seven calendar bytes and the next second.
 //! * [`registers`]: the 15 registers, what a write stores, ticks, the alarm.
 //! * [`rolled`]: what a tick says about itself.
-//! * [`device`]: bus, memory and power; the events and their answers.
+//! * [`bus`]: transfers, memory and power of every part; [`size`]: its memory.
+//! * [`device`]: the FM3130; its events and their answers.
 //! * [`state`]: a device's state by value, and 01's limits on it.
 //! * [`refusal`]: the numbers of refusals.
 //! * [`mend`]: mending a calendar.
@@ -26,6 +27,7 @@
 //! * [`table`]: the cases K1 to K12 of 01, run over the bus.
 //! * [`generate`]: lists of events to run on this and on another program.
 
+pub mod bus;
 pub mod calendar;
 pub mod capture;
 pub mod catch_up;
@@ -39,6 +41,7 @@ pub mod proving_record;
 pub mod refusal;
 pub mod registers;
 pub mod rolled;
+pub mod size;
 pub mod state;
 pub mod table;
 pub mod trim;

@@ -4,6 +4,7 @@
 
 use crate::calendar::Calendar;
 use crate::rolled::Rolled;
+use crate::size::Size;
 use crate::REGISTER_COUNT;
 
 /// All registers, 00h to 0Eh.
@@ -284,19 +285,16 @@ fn alarm_field_agrees(alarm_register: u8, core_field: u8) -> bool {
     !selected || alarm_register & !MATCH == core_field
 }
 
+/// WP1 WP0 of 0Eh, 0 to 3.
+pub fn protection(registers: &Registers) -> u8 {
+    let register = registers[ALARM_AND_PROTECTION];
+    2 * u8::from(is_set(register, PROTECT_HIGH)) + u8::from(is_set(register, PROTECT_LOW))
+}
+
 /// "Protection by WP1 WP0 of 0Eh: 00 none; 01 0000h to 07FFh; 10 0000h to
 /// 0FFFh; 11 all."
 pub fn is_protected(registers: &Registers, memory_address: u16) -> bool {
-    let register = registers[ALARM_AND_PROTECTION];
-    match (
-        is_set(register, PROTECT_HIGH),
-        is_set(register, PROTECT_LOW),
-    ) {
-        (false, false) => false,
-        (false, true) => memory_address <= 0x07FF,
-        (true, false) => memory_address <= 0x0FFF,
-        (true, true) => true,
-    }
+    Size::Kilobits64.is_protected(protection(registers), memory_address)
 }
 
 /// "CAL = 1 gives calibration; CAL = 0 and AL/SW = 0 square wave; CAL = 0, AEN

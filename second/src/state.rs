@@ -3,13 +3,12 @@
 //! 01 sets to it. How an image's bytes after the registers hold it is not this
 //! program's business.
 
+use crate::bus::{Bus, Power, Transfer};
 use crate::calendar::Calendar;
-use crate::device::{
-    Device, Phase, Power, Transfer, LAST_COMPANION_ADDRESS, LAST_MEMORY_ADDRESS,
-    SLAVE_COMPANION_READ, SLAVE_COMPANION_WRITE, SLAVE_MEMORY_READ, SLAVE_MEMORY_WRITE,
-};
+use crate::device::Device;
 use crate::generate::StartingState;
 use crate::registers::{calendar_registers, Registers, FIRST_CALENDAR, LAST_CALENDAR, STORED_BITS};
+use crate::size::Size;
 
 /// Everything of a device but its memory.
 #[derive(Clone, Copy, Debug, PartialEq, Eq)]
@@ -63,39 +62,27 @@ impl State {
     /// most 8191, companion address at most 14, clocks within a byte 0 to 8,
     /// bits that the register map fixes at 0 are 0 (also in the calendar core)."
     pub fn is_well_formed(&self) -> bool {
-        self.memory_address <= LAST_MEMORY_ADDRESS
-            && self.companion_address <= LAST_COMPANION_ADDRESS
-            && self.transfer.clocks <= 8
-            && self.fixed_bits_are_zero()
-            && self.phase_holds_what_it_can()
+        self.bus().is_within_limits::<Device>(Size::Kilobits64) && self.fixed_bits_are_zero()
+    }
+
+    fn bus(&self) -> Bus {
+        Bus {
+            selects: 0,
+            power: self.power,
+            memory_address: self.memory_address,
+            companion_address: self.companion_address,
+            transfer: self.transfer,
+        }
     }
 
     fn fixed_bits_are_zero(&self) -> bool {
         let calendar_bits = &STORED_BITS[FIRST_CALENDAR..=LAST_CALENDAR];
         hold_only(&self.registers, &STORED_BITS) && hold_only(&self.core.to_bytes(), calendar_bits)
     }
-
-    /// "Limits on what else a phase holds ... shut out no state that events
-    /// reach": a complete slave byte under way names a device, since "Any other
-    /// ... is not acknowledged"; and "Between transfers nothing of an earlier
-    /// transfer is kept but the two addresses."
-    fn phase_holds_what_it_can(&self) -> bool {
-        match self.transfer.phase {
-            Phase::BetweenTransfers => self.transfer == Transfer::none(),
-            Phase::SlaveByte if self.transfer.clocks == 8 => matches!(
-                self.transfer.received_byte(),
-                SLAVE_MEMORY_WRITE
-                    | SLAVE_MEMORY_READ
-                    | SLAVE_COMPANION_WRITE
-                    | SLAVE_COMPANION_READ
-            ),
-            _ => true,
-        }
-    }
 }
 
 /// Each byte holds stored bits only.
-fn hold_only(bytes: &[u8], stored_bits: &[u8]) -> bool {
+pub fn hold_only(bytes: &[u8], stored_bits: &[u8]) -> bool {
     let mut pairs = bytes.iter().zip(stored_bits);
     pairs.all(|(byte, stored)| byte & !stored == 0)
 }
