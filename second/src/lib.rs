@@ -1,9 +1,9 @@
 // SPDX-License-Identifier: Apache-2.0
-//! The second program: a plain model of one FM3130.
+//! The second program: a plain model of one FM3130, and of the larger family.
 //!
 //! It was written from documents alone: the rules (01, whose rulings decide
-//! first), the customers' requests (02) and the data sheet (000). No other
-//! program about the part was read. Comments quote the sentence of 01 or 02
+//! first), the customers' requests (02) and the data sheets (000; for the family
+//! 003 and 001). No other program about the part was read. Comments quote the sentence of 01 or 02
 //! that a rule comes from; the places where they left a choice are numbered in
 //! `READINGS.md`.
 //!
@@ -14,6 +14,7 @@
 //! * [`device`]: the FM3130; its events and their answers.
 //! * [`state`]: a device's state by value, and 01's limits on it.
 //! * [`refusal`]: the numbers of refusals.
+//! * [`family`]: the larger family, with event counters and a serial number.
 //! * [`mend`]: mending a calendar.
 //! * [`catch_up`]: many ticks in one call, by plain counting and by day numbers.
 //! * [`day_numbers`]: the count by day numbers, which stands by itself.
@@ -33,6 +34,7 @@ pub mod capture;
 pub mod catch_up;
 pub mod day_numbers;
 pub mod device;
+pub mod family;
 pub mod generate;
 pub mod host;
 pub mod mend;

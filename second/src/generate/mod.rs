@@ -10,6 +10,9 @@
 //! * [`ticks_told`]: short lists of ticks over every midnight of the century and
 //!   the ends of minutes and hours, to ask each tick what rolled over.
 //! * [`lamps`]: lists that read the eight lamps of 02, number 11, in every way.
+//! * [`family_exhaustive`], [`family_structured`] and [`family_random`]: the same for
+//!   the larger family, for a chosen size; [`family_calls`] and [`family_views`]:
+//!   3,129 calls and 5,184 views a size, on and over the edges of each refusal.
 //! * [`trim_edges`]: 23,040 errors and settings at the edges of what is allowed.
 //!
 //! What [`exhaustive`] holds; `tests/generators.rs` fails when the numbers are
@@ -62,6 +65,37 @@
 //! | midnights | 36,525 | 109,575 | every midnight of the century |
 //! | minute-ends | 10,080 | 30,240 | every minute of seven dates |
 //! | all | 46,605 | 139,815 | |
+//!
+//! What [`family_exhaustive`] holds for either size; `tests/family_generators.rs`
+//! fails when the numbers are no longer true:
+//!
+//! | family | lists | events | what it tries |
+//! |---|---|---|---|
+//! | family-slave-bytes | 512 | 73,216 | all 256 slave bytes, ninth bits high and low |
+//! | family-companion-addresses | 256 | 76,288 | all 256 companion address bytes |
+//! | family-memory-address-bytes | 256 | 132,096 | all address bytes, bits above the size |
+//! | family-write-protection | 256 | 213,248 | all 256 bytes of 0Bh, addresses at each border |
+//! | family-data-byte-cuts | 960 | 134,880 | every WP and border, the data byte cut |
+//! | family-address-wraps | 54 | 29,484 | from 18h to 09h and from the last byte to 0000h |
+//! | family-cuts | 3,540 | 866,784 | every transaction cut after every clock |
+//! | family-insertions | 1,416 | 307,992 | a tick or event 7 after every clock |
+//! | family-pairs-of-events | 6,000 | 973,200 | all 100 pairs inside transactions |
+//! | family-register-values | 32 | 563,552 | every register and byte, SNL 0 and 1 |
+//! | family-flags-kept | 2,048 | 356,352 | every byte of 09h and 0Bh over every flag |
+//! | family-counter-tops | 324 | 168,480 | both counters at and around their tops, CC |
+//! | family-long-counts | 6 | 533,998 | more than 65,536 edges |
+//! | family-edges-everywhere | 5,784 | 1,912,104 | an edge after every clock, CC and RC |
+//! | family-edges-in-counter-writes | 1,584 | 332,784 | edges inside writes of each counter byte |
+//! | family-count-controls | 512 | 204,032 | every byte of 0Ch after every other |
+//! | family-frozen-reads | 780 | 244,036 | frozen reads cut after every clock |
+//! | family-writes-while-frozen | 128 | 48,224 | counter bytes written while RC is 1 |
+//! | family-locks-inside-writes | 240 | 212,880 | long writes that lock on their way |
+//! | family-locks-and-protection | 64 | 81,664 | SNL and WP before and after |
+//! | family-locks-and-supplies | 108 | 97,416 | locked or not, all three power events |
+//! | family-power-sequences | 2,592 | 990,144 | all four events out of 4 to 9 |
+//! | family-power-everywhere | 2,124 | 643,236 | a loss of power after every clock |
+//! | family-handed-in | 96 | 37,536 | every supply with every byte of 0Ch |
+//! | all | 29,672 | 9,233,626 | |
 
 mod exhaustive_bad_dates;
 mod exhaustive_bus;
@@ -70,6 +104,7 @@ mod exhaustive_lists;
 mod exhaustive_power;
 mod exhaustive_refused;
 mod exhaustive_registers;
+mod family;
 mod handed_in_lists;
 mod lamp_lists;
 mod random_lists;
@@ -88,6 +123,10 @@ mod transactions;
 mod trim_edges;
 
 pub use exhaustive_lists::exhaustive;
+pub use family::{
+    any_family_state, count_family_events, family_calls, family_exhaustive, family_random,
+    family_structured, family_views, FamilyCall, FamilyList, FamilyView,
+};
 pub use handed_in_lists::{count_handed_in_events, handed_in, handed_in_random, HandedInList};
 pub use lamp_lists::lamps;
 pub use random_lists::random;

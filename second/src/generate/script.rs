@@ -7,6 +7,7 @@ use crate::device::{
     SLAVE_COMPANION_READ, SLAVE_COMPANION_WRITE, SLAVE_MEMORY_READ, SLAVE_MEMORY_WRITE, START,
     STOP, TICK,
 };
+use crate::family::{EDGE_ON_CNT1, EDGE_ON_CNT2};
 use crate::registers::WRITE_CALENDAR;
 
 /// A list of events under construction.
@@ -23,7 +24,6 @@ impl Script {
 
     /// Any one event.
     pub fn event(&mut self, event: u8) -> &mut Script {
-        assert!(event <= 7, "events are 0 to 7");
         self.events.push(event);
         self
     }
@@ -74,6 +74,16 @@ impl Script {
 
     pub fn power_returned(&mut self) -> &mut Script {
         self.event(POWER_RETURNED)
+    }
+
+    /// An edge on CNT1 of a part of the family.
+    pub fn edge_on_cnt1(&mut self) -> &mut Script {
+        self.event(EDGE_ON_CNT1)
+    }
+
+    /// An edge on CNT2 of a part of the family.
+    pub fn edge_on_cnt2(&mut self) -> &mut Script {
+        self.event(EDGE_ON_CNT2)
     }
 
     // ----- bytes -----
