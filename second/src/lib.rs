@@ -23,6 +23,7 @@
 //! * [`capture`]: judging a capture file, and writing one.
 //! * [`proving_record`], [`proving_history`]: eight lamps and their reports, event
 //!   by event and from the whole history.
+//! * [`next_line`]: what the device will do to the line, told before the Clock.
 //! * [`two_masters`]: who holds the bus, and calls by either master.
 //! * [`host`]: small helpers that play the bus master.
 //! * [`table`]: the cases K1 to K12 of 01, run over the bus.
@@ -38,6 +39,7 @@ pub mod family;
 pub mod generate;
 pub mod host;
 pub mod mend;
+pub mod next_line;
 pub mod proving_history;
 pub mod proving_record;
 pub mod refusal;

@@ -53,6 +53,12 @@ impl State {
         }
     }
 
+    /// Puts a device into this state; its memory stays.
+    pub fn put_into(&self, device: &mut Device) {
+        let memory = std::mem::take(&mut device.memory);
+        *device = self.device(memory);
+    }
+
     /// The contents of 02h to 08h.
     pub fn shown_calendar(&self) -> Calendar {
         calendar_registers(&self.registers)

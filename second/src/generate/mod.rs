@@ -3,6 +3,8 @@
 //! the same lists.
 //!
 //! * [`exhaustive`]: small families that try every value of something.
+//! * [`for_every_prefix`]: those of them that pass through every place of every kind
+//!   of transfer, to ask something after each of their events.
 //! * [`structured`]: transactions of every kind with chosen disturbances.
 //! * [`random`]: noise and plausible traffic by weights.
 //! * [`handed_in`] and [`handed_in_random`]: lists that begin in a state handed
@@ -122,7 +124,7 @@ mod ticks_told_lists;
 mod transactions;
 mod trim_edges;
 
-pub use exhaustive_lists::exhaustive;
+pub use exhaustive_lists::{exhaustive, for_every_prefix};
 pub use family::{
     any_family_state, count_family_events, family_calls, family_exhaustive, family_random,
     family_structured, family_views, FamilyCall, FamilyList, FamilyView,
