@@ -27,6 +27,12 @@ impl Played for family::Device {
     }
 }
 
+impl Played for family::Set {
+    fn play(&mut self, events: &[u8]) -> Vec<u8> {
+        events.iter().map(|event| self.event(*event)).collect()
+    }
+}
+
 /// Runs a script.
 pub fn run_script(device: &mut impl Played, script: &Script) -> Vec<u8> {
     device.play(&script.events)

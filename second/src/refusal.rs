@@ -28,3 +28,10 @@ pub const BUS_NOT_HELD: u8 = 7;
 
 /// 02, number 7: "a larger n is refused by number 8".
 pub const TOO_MANY_TICKS: u8 = 8;
+
+/// 02, number 12: "Equal selects ... are refused when the set is made". The
+/// request names no number; this program takes 9.
+pub const EQUAL_SELECTS: u8 = 9;
+
+/// 02, number 12: "a device not between transfers" is refused too, by 10.
+pub const NOT_BETWEEN_TRANSFERS: u8 = 10;

@@ -30,7 +30,7 @@ fn the_whole_memory() {
         let data: Vec<u8> = (0..size.bytes()).map(|place| (place % 251) as u8).collect();
         let acknowledged = host::memory_write(&mut device, 0x0000, &data);
         assert!(acknowledged.iter().all(|one| *one));
-        assert_eq!(device.memory, data);
+        assert!(device.memory == data);
         assert_eq!(device.memory_address, 0);
         assert_eq!(host::memory_read(&mut device, 0x0000, data.len()), data);
     }
@@ -46,7 +46,7 @@ fn address_bits_above_the_size() {
             expected[usize::from(address)] ^= 0xFF;
             let byte = expected[usize::from(address)];
             host::memory_write(&mut device, address | above, &[byte]);
-            assert_eq!(device.memory, expected);
+            assert!(device.memory == expected);
         }
     }
     let mut device = filled(Size::Kilobits256);
@@ -101,7 +101,7 @@ fn protection_at_every_border() {
                     }
                     let acknowledged = host::memory_write(&mut device, address, &[byte]);
                     assert_eq!(acknowledged, [true, true, true, !refused]);
-                    assert_eq!(device.memory, expected);
+                    assert!(device.memory == expected);
                     let next = (usize::from(address) + 1) % size.bytes();
                     assert_eq!(usize::from(device.memory_address), next);
                 }
@@ -177,11 +177,11 @@ fn addresses_after_a_loss_of_power() {
             assert_eq!(device.memory_address, 0);
             assert_eq!(device.companion_address, 0x09);
             assert!(device.between_transfers());
-            assert_eq!(device.memory, memory);
+            assert!(device.memory == memory);
             // "While off, bus events do nothing and a Clock's line is the master's."
             let before = device.clone();
             assert_eq!(device.run(&[0, 2, 3, 1]), [1, 0, 1, 1]);
-            assert_eq!(device, before);
+            assert!(device == before);
         }
     }
 }
@@ -434,9 +434,9 @@ fn an_edge_changes_counters_alone() {
             if (8..=9).contains(event) {
                 let mut expected = before.clone();
                 expected.registers[4..8].copy_from_slice(&device.registers[4..8]);
-                assert_eq!(device, expected);
+                assert!(device == expected);
                 if before.power == Power::Gone {
-                    assert_eq!(device, before);
+                    assert!(device == before);
                 }
             }
         }

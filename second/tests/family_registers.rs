@@ -109,7 +109,7 @@ fn ticks_change_nothing_in_any_phase() {
         device.event(event);
         let before = device.clone();
         assert_eq!(device.event(4), 1);
-        assert_eq!(device, before);
+        assert!(device == before);
     }
 }
 

@@ -15,6 +15,8 @@
 //! * [`family_exhaustive`], [`family_structured`] and [`family_random`]: the same for
 //!   the larger family, for a chosen size; [`family_calls`] and [`family_views`]:
 //!   3,129 calls and 5,184 views a size, on and over the edges of each refusal.
+//! * [`set_exhaustive`] and [`set_random`]: lists for one to four parts on one line;
+//!   [`set_calls`]: 1,710 sets made or refused, and lists run on them or refused.
 //! * [`trim_edges`]: 23,040 errors and settings at the edges of what is allowed.
 //!
 //! What [`exhaustive`] holds; `tests/generators.rs` fails when the numbers are
@@ -98,6 +100,18 @@
 //! | family-power-everywhere | 2,124 | 643,236 | a loss of power after every clock |
 //! | family-handed-in | 96 | 37,536 | every supply with every byte of 0Ch |
 //! | all | 29,672 | 9,233,626 | |
+//!
+//! What [`set_exhaustive`] holds; `tests/family_sets.rs` fails when the numbers are
+//! no longer true:
+//!
+//! | family | lists | events | what it tries |
+//! |---|---|---|---|
+//! | set-arrangements | 128 | 281,312 | all 64 arrangements of selects, both orders of sizes |
+//! | set-slave-bytes | 1,536 | 1,250,304 | all 256 slave bytes on sets of four, two and one |
+//! | set-edges-inside | 720 | 903,744 | ticks and edges on all inputs after every clock |
+//! | set-power-inside | 816 | 990,312 | power events inside transactions |
+//! | set-other-starts | 1,184 | 1,461,416 | a Start to another device inside a transaction |
+//! | all | 4,384 | 4,887,088 | |
 
 mod exhaustive_bad_dates;
 mod exhaustive_bus;
@@ -126,8 +140,10 @@ mod trim_edges;
 
 pub use exhaustive_lists::{exhaustive, for_every_prefix};
 pub use family::{
-    any_family_state, count_family_events, family_calls, family_exhaustive, family_random,
-    family_structured, family_views, FamilyCall, FamilyList, FamilyView,
+    addressed_to, any_family_state, count_family_events, count_set_events, family_calls,
+    family_exhaustive, family_random, family_structured, family_views, select_arrangements,
+    set_calls, set_exhaustive, set_random, FamilyCall, FamilyList, FamilyView, SetCall,
+    SetCallPlace, SetList, SetPlace,
 };
 pub use handed_in_lists::{count_handed_in_events, handed_in, handed_in_random, HandedInList};
 pub use lamp_lists::lamps;

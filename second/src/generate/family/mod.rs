@@ -11,11 +11,18 @@ mod power_lists;
 mod random_lists;
 mod random_parts;
 mod register_lists;
+mod set_calls;
+mod set_lists;
 mod structured_lists;
 
 pub use calls::{family_calls, family_views, FamilyCall, FamilyView};
 pub use random_lists::family_random;
 pub use random_parts::any_family_state;
+pub use set_calls::{set_calls, SetCall, SetCallPlace};
+pub use set_lists::{
+    addressed_to, count_set_events, select_arrangements, set_exhaustive, set_random, SetList,
+    SetPlace,
+};
 pub use structured_lists::family_structured;
 
 use super::script::Script;
