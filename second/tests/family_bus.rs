@@ -4,7 +4,7 @@
 
 use second::bus::{LogicalDevice, Phase, Power, Transfer};
 use second::family::{self, Device, Size, State, SIZES};
-use second::generate::{self, fill_memory, Script};
+use second::generate::{self, fill_memory, FamilyView, Script};
 use second::host;
 
 fn filled(size: Size) -> Device {
@@ -378,47 +378,42 @@ fn a_refused_event() {
     }
 }
 
+/// The number that a view is due.
+fn number_of(view: &FamilyView) -> u8 {
+    let chosen = match view.selector {
+        0 => view.size.bytes() as u64,
+        _ => 16,
+    };
+    let end = view.start.checked_add(view.length);
+    if view.memory_bytes != view.size.bytes() {
+        1
+    } else if view.image_bytes != 64 {
+        2
+    } else if view.selector > 1 {
+        5
+    } else if end.is_none_or(|end| end > chosen) {
+        6
+    } else {
+        0
+    }
+}
+
 /// The viewer: numbers 1, 2, 5 and 6 in their order, and its parts.
 #[test]
 fn the_viewer() {
-    for size in SIZES {
-        for view in generate::family_views(size) {
-            let mut image = vec![0; view.image_bytes];
-            fill_memory(5, &mut image);
-            let mut memory = vec![0; view.memory_bytes];
-            fill_memory(6, &mut memory);
-            let (number, part) = family::view(
-                size,
-                &image,
-                &memory,
-                view.selector,
-                view.start,
-                view.length,
-            );
-            let chosen: &[u8] = if view.selector == 0 {
-                &memory
-            } else {
-                &image[..16]
-            };
-            let end = view.start.checked_add(view.length);
-            let expected = if view.memory_bytes != size.bytes() {
-                1
-            } else if view.image_bytes != 64 {
-                2
-            } else if view.selector > 1 {
-                5
-            } else if end.is_none_or(|end| end > chosen.len() as u64) {
-                6
-            } else {
-                0
-            };
-            assert_eq!(number, expected, "{view:?}");
-            if number == 0 {
-                let start = view.start as usize;
-                assert_eq!(part, &chosen[start..start + view.length as usize]);
-            } else {
-                assert!(part.is_empty());
-            }
+    for view in SIZES.into_iter().flat_map(generate::family_views) {
+        let mut image = vec![0; view.image_bytes];
+        fill_memory(5, &mut image);
+        let memory: Vec<u8> = (0..view.memory_bytes).map(|place| place as u8).collect();
+        let (start, length) = (view.start, view.length);
+        let (number, part) = family::view(view.size, &image, &memory, view.selector, start, length);
+        assert_eq!(number, number_of(&view), "{view:?}");
+        if number == 0 {
+            let chosen: &[u8] = if view.selector == 0 { &memory } else { &image };
+            let start = start as usize;
+            assert_eq!(part, &chosen[start..start + length as usize]);
+        } else {
+            assert!(part.is_empty());
         }
     }
 }

@@ -197,40 +197,51 @@ fn facts_of_carries(before: &Device, after: &Device, facts: &mut BTreeSet<Fact>)
 }
 
 fn facts_of_eighth_clock(before: &Device, after: &Device, facts: &mut BTreeSet<Fact>) {
-    let register = usize::from(before.companion_address - 0x09);
-    let protection = usize::from(before.registers[2] >> 3 & 3);
-    let wrapped = before.memory_address == before.size.last_address();
     match before.transfer.phase {
-        Phase::WriteData(LogicalDevice::Companion) => {
-            facts.insert(("register written", register + 16 * bit(before, 2, 7)));
-            if register == 3 {
-                let kind = bit(before, 3, 3) * 2 + bit(after, 3, 3);
-                facts.insert(("RC written", kind));
-            }
-            if (4..8).contains(&register) && bit(before, 3, 3) == 1 {
-                facts.insert(("counter written while frozen", register));
-            }
-        }
-        Phase::ReadData(LogicalDevice::Companion) => {
-            facts.insert(("register read", register));
-            let frozen = (4..8).contains(&register) && bit(before, 3, 3) == 1;
-            if frozen && before.snapshot[register - 4] != before.registers[register] {
-                facts.insert(("frozen byte differs", register));
-            }
-        }
+        Phase::WriteData(LogicalDevice::Companion) => facts_of_writing(before, after, facts),
+        Phase::ReadData(LogicalDevice::Companion) => facts_of_reading(before, facts),
+        _ => facts_of_memory(before, after, facts),
+    }
+}
+
+fn facts_of_writing(before: &Device, after: &Device, facts: &mut BTreeSet<Fact>) {
+    let register = usize::from(before.companion_address - 0x09);
+    let frozen = bit(before, 3, 3);
+    facts.insert(("register written", register + 16 * bit(before, 2, 7)));
+    if register == 3 {
+        facts.insert(("RC written", frozen * 2 + bit(after, 3, 3)));
+    }
+    if (4..8).contains(&register) && frozen == 1 {
+        facts.insert(("counter written while frozen", register));
+    }
+}
+
+fn facts_of_reading(before: &Device, facts: &mut BTreeSet<Fact>) {
+    let register = usize::from(before.companion_address - 0x09);
+    facts.insert(("register read", register));
+    let frozen = (4..8).contains(&register) && bit(before, 3, 3) == 1;
+    if frozen && before.snapshot[register - 4] != before.registers[register] {
+        facts.insert(("frozen byte differs", register));
+    }
+}
+
+fn facts_of_memory(before: &Device, after: &Device, facts: &mut BTreeSet<Fact>) {
+    let protection = usize::from(before.registers[2] >> 3 & 3);
+    let last = before.size.last_address();
+    let wraps = before.memory_address == last;
+    match before.transfer.phase {
         Phase::WriteData(LogicalDevice::Memory) => {
-            let refused = after.between_transfers();
-            facts.insert(("memory byte", protection * 2 + usize::from(refused)));
-            if wrapped {
-                facts.insert(("memory wraps by a write", usize::from(refused)));
+            let refused = usize::from(after.between_transfers());
+            facts.insert(("memory byte", protection * 2 + refused));
+            if wraps {
+                facts.insert(("memory wraps by a write", refused));
             }
         }
-        Phase::ReadData(LogicalDevice::Memory) if wrapped => {
+        Phase::ReadData(LogicalDevice::Memory) if wraps => {
             facts.insert(("memory wraps by a read", 0));
         }
         Phase::MemoryAddressLowByte => {
-            let above = before.transfer.memory_address_high_byte
-                > before.size.last_address().to_be_bytes()[0];
+            let above = before.transfer.memory_address_high_byte > last.to_be_bytes()[0];
             facts.insert(("address bits above", usize::from(above)));
         }
         _ => {}

@@ -3,7 +3,7 @@
 
 use second::bus::Power;
 use second::family::{Device, Member, Set, Size, State, SIZES};
-use second::generate::{self, addressed_to, Script, SetList};
+use second::generate::{self, addressed_to, Script, SetCall, SetCallPlace, SetList};
 use second::host;
 use std::collections::{BTreeMap, BTreeSet};
 
@@ -252,43 +252,39 @@ fn selects_are_all_that_differs() {
     }
 }
 
+/// One transaction of each kind.
+fn four_transactions() -> [Script; 4] {
+    let mut scripts: [Script; 4] = std::array::from_fn(|_| Script::new());
+    scripts[0].memory_write(0x1FFF, &[1, 2, 3]);
+    scripts[1].companion_write(0x0B, &[0x80, 0x0C, 1, 2, 3, 4, 5]);
+    scripts[2].memory_read(0x0123, 3);
+    scripts[3].companion_read(0x0C, 4);
+    scripts
+}
+
 /// "a whole transaction begun between transfers, its slave bytes all naming one
 /// device, leaves the others, once ended, as they were"
 #[test]
 fn others_are_left_as_they_were() {
-    let mut scripts = Vec::new();
-    let mut script = Script::new();
-    script.memory_write(0x1FFF, &[1, 2, 3]);
-    scripts.push(script);
-    let mut script = Script::new();
-    script.companion_write(0x0B, &[0x80, 0x0C, 1, 2, 3, 4, 5]);
-    scripts.push(script);
-    let mut script = Script::new();
-    script.memory_read(0x0123, 3);
-    scripts.push(script);
-    let mut script = Script::new();
-    script.companion_read(0x0C, 4);
-    scripts.push(script);
-    for script in scripts {
-        for selects in 0..4_u8 {
-            let mut set = set_of(&[2, 3, 1, 0]);
-            // every device stands somewhere else
-            for other in 0..4_u8 {
-                memory_write(&mut set, other, 0x0200 + u16::from(other), &[other]);
-                host::write(&mut set, 0xD0 + 2 * other, &[0x12 + other]);
-            }
-            let before = set.clone();
-            let events = addressed_to(selects, &script).events;
-            let answers = set.run(&events, events.len()).expect("accepted");
-            for (device, old) in set.devices.iter().zip(&before.devices) {
-                if device.selects == selects {
-                    assert!(device != old);
-                    // "the line it sees is that device's"
-                    let mut alone = old.clone();
-                    assert_eq!(alone.run(&events), answers);
-                } else {
-                    assert!(device == old);
-                }
+    for (script, selects) in four_transactions()
+        .iter()
+        .flat_map(|script| (0..4_u8).map(move |selects| (script, selects)))
+    {
+        let mut set = set_of(&[2, 3, 1, 0]);
+        // every device stands somewhere else
+        for other in 0..4_u8 {
+            memory_write(&mut set, other, 0x0200 + u16::from(other), &[other]);
+            host::write(&mut set, 0xD0 + 2 * other, &[0x12 + other]);
+        }
+        let before = set.clone();
+        let events = addressed_to(selects, script).events;
+        let answers = set.run(&events, events.len()).expect("accepted");
+        for (device, old) in set.devices.iter().zip(&before.devices) {
+            let is_named = device.selects == selects;
+            assert_eq!(device == old, !is_named);
+            if is_named {
+                // "the line it sees is that device's"
+                assert_eq!(old.clone().run(&events), answers);
             }
         }
     }
@@ -296,51 +292,62 @@ fn others_are_left_as_they_were() {
 
 // ----- refusals -----
 
-/// 1, 2, 9 and 10 when the set is made, each asked of all before the next; then 3
-/// and 4 when a list is run; a refusal changes nothing.
+/// The number that the making of a set is due, each asked of all devices.
+fn number_of_making(places: &[SetCallPlace]) -> u8 {
+    let selects: BTreeSet<u8> = places.iter().map(|one| one.selects).collect();
+    if places
+        .iter()
+        .any(|one| one.memory_bytes != one.size.bytes())
+    {
+        1
+    } else if places.iter().any(|one| one.state.companion_address < 9) {
+        2
+    } else if selects.len() < places.len() {
+        9
+    } else if places.iter().any(|one| one.state.transfer.clocks > 0) {
+        10
+    } else {
+        0
+    }
+}
+
+/// The number that a list is due on a set that was made.
+fn number_of_running(call: &SetCall) -> u8 {
+    let last = 7 + 2 * call.places.len();
+    if call.events.iter().any(|event| usize::from(*event) > last) {
+        3
+    } else if call.room < call.events.len() {
+        4
+    } else {
+        0
+    }
+}
+
+/// 1, 2, 9 and 10 when the set is made, then 3 and 4 when a list is run; a
+/// refusal changes nothing.
 #[test]
 fn refusals_in_order() {
     let calls = generate::set_calls();
     assert_eq!(calls.len(), SET_CALLS);
     let mut given = BTreeSet::new();
     for call in calls {
-        let places = &call.places;
-        let selects: BTreeSet<u8> = places.iter().map(|one| one.selects).collect();
-        let making = if places
-            .iter()
-            .any(|one| one.memory_bytes != one.size.bytes())
-        {
-            1
-        } else if places.iter().any(|one| one.state.companion_address < 9) {
-            2
-        } else if selects.len() < places.len() {
-            9
-        } else if places.iter().any(|one| one.state.transfer.clocks > 0) {
-            10
-        } else {
-            0
-        };
-        let made = Set::make(call.members());
+        let making = number_of_making(&call.places);
         given.insert(making);
+        let made = Set::make(call.members());
         let Ok(mut set) = made else {
             assert_eq!(made.err(), Some(making), "{}", call.name);
             continue;
         };
         assert_eq!(making, 0, "{}", call.name);
         let before = set.clone();
-        let last = 7 + 2 * places.len();
-        let running = if call.events.iter().any(|event| usize::from(*event) > last) {
-            Err(3)
-        } else if call.room < call.events.len() {
-            Err(4)
-        } else {
-            Ok(call.events.len())
-        };
-        let answers = set.run(&call.events, call.room);
-        assert_eq!(answers.map(|answers| answers.len()), running);
-        if let Err(number) = running {
-            assert!(set == before);
-            given.insert(number);
+        let running = number_of_running(&call);
+        given.insert(running);
+        match set.run(&call.events, call.room) {
+            Ok(answers) => assert_eq!((answers.len(), running), (call.events.len(), 0)),
+            Err(number) => {
+                assert_eq!(number, running, "{}", call.name);
+                assert!(set == before);
+            }
         }
     }
     assert_eq!(given, BTreeSet::from([0, 1, 2, 3, 4, 9, 10]));

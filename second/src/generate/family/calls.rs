@@ -1,7 +1,7 @@
 // SPDX-License-Identifier: Apache-2.0
 //! Calls that are refused, or just not: every number, every limit, every order.
 
-use crate::bus::{LogicalDevice, Phase, Transfer};
+use crate::bus::{LogicalDevice, Phase};
 use crate::family::{Size, State};
 
 /// One call of the list run: what it is given.
@@ -62,6 +62,22 @@ fn wrong_memories(size: Size) -> Vec<FamilyCall> {
 }
 
 fn states_at_the_limits(size: Size) -> Vec<FamilyCall> {
+    let mut states = addresses_at_the_limits();
+    states.extend(every_register_bit());
+    states.extend(every_number_of_clocks());
+    let mut state = State::fresh();
+    state.snapshot = [0xFF; 4];
+    states.push((String::from("a snapshot while RC is 0"), state));
+    states
+        .into_iter()
+        .map(|(name, state)| FamilyCall {
+            state,
+            ..good_call(size, name)
+        })
+        .collect()
+}
+
+fn addresses_at_the_limits() -> Vec<(String, State)> {
     let mut states = Vec::new();
     for address in [0x1FFF, 0x2000, 0x7FFF, 0x8000, 0xFFFF] {
         let mut state = State::fresh();
@@ -73,6 +89,12 @@ fn states_at_the_limits(size: Size) -> Vec<FamilyCall> {
         state.companion_address = address;
         states.push((format!("companion address {address:02X}h"), state));
     }
+    states
+}
+
+/// Every bit of every register set, those that the map fixes at 0 too.
+fn every_register_bit() -> Vec<(String, State)> {
+    let mut states = Vec::new();
     for place in 0..16 {
         for bit in 0..8 {
             let mut state = State::fresh();
@@ -80,33 +102,27 @@ fn states_at_the_limits(size: Size) -> Vec<FamilyCall> {
             states.push((format!("bit {bit} of {:02X}h", place + 9), state));
         }
     }
-    for clocks in 0..=10 {
+    states
+}
+
+/// 0 to 10 clocks of a slave byte D0h and of a byte sent.
+fn every_number_of_clocks() -> Vec<(String, State)> {
+    let mut states = Vec::new();
+    for clocks in 0..=10_u8 {
         for phase in [Phase::SlaveByte, Phase::ReadData(LogicalDevice::Companion)] {
             let mut state = State::fresh();
-            state.transfer = Transfer {
-                phase,
-                clocks,
-                // of a slave byte the bits of D0h so far; of a byte sent none
-                received_bits: std::array::from_fn(|place| {
-                    phase == Phase::SlaveByte
-                        && place < usize::from(clocks)
-                        && (0xD0 >> (7 - place)) & 1 == 1
-                }),
-                ..Transfer::none()
-            };
+            state.transfer.phase = phase;
+            state.transfer.clocks = clocks;
+            if phase == Phase::SlaveByte {
+                let received = usize::from(clocks.min(8));
+                for place in 0..received {
+                    state.transfer.received_bits[place] = 0xD0 >> (7 - place) & 1 == 1;
+                }
+            }
             states.push((format!("{clocks} clocks in {phase:?}"), state));
         }
     }
-    let mut state = State::fresh();
-    state.snapshot = [0xFF; 4];
-    states.push((String::from("a snapshot while RC is 0"), state));
     states
-        .into_iter()
-        .map(|(name, state)| FamilyCall {
-            state,
-            ..good_call(size, name)
-        })
-        .collect()
 }
 
 fn unknown_events(size: Size) -> Vec<FamilyCall> {

@@ -152,7 +152,8 @@ fn arrangements() -> Vec<SetList> {
             let mut script = Script::new();
             for selects in 0..4_u8 {
                 let mut part = Script::new();
-                part.memory_write(0x1FFE, &[0x50 + selects, 0x60, 0x70, 0x80]);
+                // the last bytes of either size; bits above 64Kb are ignored there
+                part.memory_write(0x7FFE, &[0x50 + selects, 0x60, 0x70, 0x80]);
                 part.companion_write(0x0D, &[0xFF, selects, 0xFF, 0x30]);
                 part.companion_write(0x18, &[0x90 + selects]);
                 script.events(&addressed_to(selects, &part).events);
@@ -205,12 +206,12 @@ fn slave_bytes() -> Vec<SetList> {
 }
 
 /// Three devices; transactions of every kind to each of them and to the absent
-/// one, as [`transactions`] has them, with 0Ch set before.
+/// one, with 0Ch set before; their addresses are those of either size.
 fn cases() -> Vec<(String, u8, u8, Script)> {
     let mut cases = Vec::new();
     for selects in 0..4_u8 {
-        for control in [0x00, RC | CC] {
-            for (kind, transaction) in transactions(Size::Kilobits64) {
+        for (control, size) in [(0x00, Size::Kilobits256), (RC | CC, Size::Kilobits64)] {
+            for (kind, transaction) in transactions(size) {
                 let name = format!("{kind} to {selects}, 0Ch {control:X}h");
                 cases.push((name, selects, control, addressed_to(selects, &transaction)));
             }
