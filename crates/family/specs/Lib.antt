@@ -1,0 +1,7 @@
+-- SPDX-License-Identifier: Apache-2.0
+pub mod Numbers
+pub mod Chip
+pub mod Limits
+pub mod Step
+pub mod Run
+pub mod Lock
