@@ -1,0 +1,8 @@
+-- SPDX-License-Identifier: Apache-2.0
+pub mod Images
+pub mod Runs
+pub mod Ends
+pub mod Pieces
+pub mod Singles
+pub mod Views
+pub mod Unique

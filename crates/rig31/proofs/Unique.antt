@@ -1,0 +1,56 @@
+-- SPDX-License-Identifier: Apache-2.0
+-- No second outcome satisfies an entry's contract, at any size: each says that what comes out is one definition
+-- of what went in.
+-- Assumes nothing.
+use Prim.Native.Nat.{ℕ}
+use mathlib.Core.Path.{_≡_, sym, _∙_}
+use mathlib.Core.List.{List}
+use denote.Ref.{RefT}
+use Rattle.family.specs.declared.State.{State}
+use Rattle.rig31.specs.Image.{imageOf}
+use Rattle.rig31.specs.Reading.{DecodeSettled}
+use Rattle.rig31.specs.Run.{RunSettled}
+use Rattle.rig31.specs.Fresh.{FreshSettled}
+use Rattle.rig31.specs.Single.{SingleSettled}
+use Rattle.rig31.specs.View.{ViewNumberSettled, ViewSettled}
+use Rattle.rig31.specs.declared.Decoded.{Decoded}
+use Rattle.rig31.proofs.Images.{settled-decode}
+
+module _ (size : ℕ) where
+  -- the list run: number, image, memory and answers
+  pub run-unique : (i m es a : List ℕ) (n n₂ : ℕ) (i′ i₂ m′ m₂ a′ a₂ : List ℕ)
+      → RunSettled size i m es a n i′ m′ a′ → RunSettled size i m es a n₂ i₂ m₂ a₂
+      → (n ≡ n₂) × (i′ ≡ i₂) × (m′ ≡ m₂) × (a′ ≡ a₂)
+  run-unique i m es a n n₂ i′ i₂ m′ m₂ a′ a₂ p q =
+      let e = p ∙ sym q in (λ k. e k .number, λ k. e k .image, λ k. e k .memory, λ k. e k .answers)
+
+  -- one event: number, image, memory and what is told
+  pub single-unique : (i m : List ℕ) (e : ℕ) (t : List ℕ) (n n₂ : ℕ) (i′ i₂ m′ m₂ t′ t₂ : List ℕ)
+      → SingleSettled size i m e t n i′ m′ t′ → SingleSettled size i m e t n₂ i₂ m₂ t₂
+      → (n ≡ n₂) × (i′ ≡ i₂) × (m′ ≡ m₂) × (t′ ≡ t₂)
+  single-unique i m e t n n₂ i′ i₂ m′ m₂ t′ t₂ p q =
+      let e = p ∙ sym q in (λ k. e k .number, λ k. e k .image, λ k. e k .memory, λ k. e k .told)
+
+  -- the viewer: the bytes, and where they lie
+  pub view-unique : (i m : RefT (List ℕ)) (selector start len : ℕ) (r r₂ : RefT (List ℕ))
+      → ViewSettled size i m selector start len r → ViewSettled size i m selector start len r₂
+      → (r .now ≡ r₂ .now) × (r .ptr ≡ r₂ .ptr)
+  view-unique i m selector start len r r₂ p q = (p .bytes ∙ sym (q .bytes), p .place ∙ sym (q .place))
+
+  -- its number
+  pub view-number-unique : (i m : List ℕ) (selector start len n n₂ : ℕ)
+      → ViewNumberSettled size i m selector start len n → ViewNumberSettled size i m selector start len n₂ → n ≡ n₂
+  view-number-unique i m selector start len n n₂ p q = p ∙ sym q
+
+  -- reading an image
+  pub decode-unique : (i : List ℕ) (r r₂ : Decoded) → DecodeSettled size i r → DecodeSettled size i r₂ → r ≡ r₂
+  decode-unique i r r₂ p q = sym (settled-decode size i r p) ∙ settled-decode size i r₂ q
+
+-- writing an image
+pub image-unique : (s : State) (i i₂ : List ℕ) → i ≡ imageOf s → i₂ ≡ imageOf s → i ≡ i₂
+image-unique s i i₂ p q = p ∙ sym q
+
+-- the fresh image: number and image
+pub fresh-unique : (i : List ℕ) (n n₂ : ℕ) (i′ i₂ : List ℕ)
+    → FreshSettled i n i′ → FreshSettled i n₂ i₂ → (n ≡ n₂) × (i′ ≡ i₂)
+fresh-unique i n n₂ i′ i₂ p q = let e = p ∙ sym q in (λ k. e k .number, λ k. e k .image)
