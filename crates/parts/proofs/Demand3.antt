@@ -1,0 +1,197 @@
+-- SPDX-License-Identifier: Apache-2.0
+-- Demand 3 on event bytes, from that of the machine, over any size and companion. A powered event byte is the machine's
+-- event (`event-is`), by computation; so a list of event bytes leaves what the machine's run leaves (`run-is`), and is
+-- answered by its answers, written as bytes (`answers-are`) or as bits (`lines-are`).
+-- Assumes nothing.
+use Prim.Native.Nat.{ℕ, _+_, _*_, _%_}
+use mathlib.Core.Path.{_≡_, refl, sym, ap, subst, _∙_}
+use mathlib.Core.Bool.{Bool, true, false, cond}
+use mathlib.Core.List.{List, [], _∷_, map}
+use native.Mathlib.Omega.{arith}
+use Rattle.wire.specs.Machine.{start, stop, clock, line, tick, Answer, answerOf, step}
+use Rattle.wire.specs.Machine as Machine
+use Rattle.wire.specs.Memory.{Cells, lent}
+use Rattle.bus.specs.Desk.{Desks, partOf}
+use Rattle.bus.specs.Event.{happening, Done, doneOf, eventOn}
+use Rattle.bus.specs.declared.Beat.the-variants.{Second, Cnt1, Cnt2}
+use Rattle.bus.specs.declared.Power.the-variants.{On}
+use Rattle.merging.specs.Merge.{Said, by, eventsOf, keepIf, picked}
+use Rattle.merging.specs.Party.{isMemory, isCompanion, BusEvent, PartyEvent}
+use Rattle.merging.specs.Apart.{run, answersOf}
+use Rattle.merging.specs.Demand.{OnlyWrites, IfWritten, WritesSteady, Isolated}
+use Rattle.merging.proofs.Demand.{isolation}
+use Rattle.parts.specs.Demand3 as bytes
+use Rattle.parts.specs.Events.{Held, event, heldBy, answerTo, afterEvents, answersTo}
+use Rattle.parts.specs.Demand3.{linesOf, DemandThree}
+
+line-bit : (n : ℕ) (d : Bool) → (2 * n + cond d 1 0) % 2 ≡ cond d 1 0
+line-bit n true = omega arith
+line-bit n false = omega arith
+
+-- what is picked of a list that was mapped
+keep-map : {A B : Type 0} (f : A → B) (t : Bool) (a : A) (x : List B) (y : List A) → x ≡ map f y
+    → keepIf t (f a) x ≡ map f (keepIf t a y)
+keep-map {B = B} f true a x y e = ap (λ (z : List B). f a ∷ z) e
+keep-map f false a x y e = e
+
+picked-map : {I T A B : Type 0} (f : A → B) (mine : I → Bool) (l : List (Said I T)) (all : List A)
+    → picked mine l (map f all) ≡ map f (picked mine l all)
+picked-map f mine [] all = refl
+picked-map f mine (by i e ∷ l) [] = refl
+picked-map f mine (by i e ∷ l) (a ∷ all) =
+    keep-map f (mine i) a (picked mine l (map f all)) (picked mine l all) (picked-map f mine l all)
+
+module _ (size : ℕ) (D : Desks) where
+  abbrev P : Machine.Parts
+  P = partOf size D
+
+  abbrev H : Type 0
+  H = Held size D
+
+  abbrev Bus : Type 0
+  Bus = Machine.State P
+
+  abbrev Events : Type 0
+  Events = List (BusEvent P)
+
+  abbrev after : H → List ℕ → H
+  after = afterEvents size D
+
+  abbrev answers : H → List ℕ → List ℕ
+  answers = answersTo size D
+
+  abbrev byteOf : BusEvent P → ℕ
+  byteOf = bytes.byteOf size D
+
+  abbrev bytesOf : Events → List ℕ
+  bytesOf = bytes.bytesOf size D
+
+  abbrev SteadyIn : H → Events → Type 0
+  SteadyIn = bytes.WritesSteadyIn size D
+
+  -- what a powered device holds, of the machine's state; and its memory
+  abbrev heldOf : Bus → H
+  heldOf u =
+      record {
+        bus = record { power = On; phase = u .phase; address = u .memory .address };
+        companion = u .companion;
+        memory = u .memory .bytes;
+      }
+
+  abbrev storeIn : H → Cells
+  storeIn h = lent (h .memory) (h .bus .address)
+
+  -- an answer as a byte, a line as a bit
+  abbrev byteFor : Answer P → ℕ
+  byteFor a = 2 * a .pin + cond (a .line) 1 0
+
+  abbrev bitFor : Bool → ℕ
+  bitFor d = cond d 1 0
+
+  -- one event
+  event-is : (u : Bus) (e : BusEvent P)
+      → event size D (heldOf u) (byteOf e) ≡ doneOf size D (step P u e)
+  unfolding happening eventOn
+  event-is u (line start) = refl
+  event-is u (line stop) = refl
+  event-is u (line (clock false)) = refl
+  event-is u (line (clock true)) = refl
+  event-is u (tick Second) = refl
+  event-is u (tick Cnt1) = refl
+  event-is u (tick Cnt2) = refl
+
+  module _ (u : Bus) (e : BusEvent P) where
+    after-is : heldBy size D (event size D (heldOf u) (byteOf e)) ≡ heldOf (step P u e .state)
+    after-is = ap (heldBy size D) (event-is u e)
+
+    answer-is : answerTo size D (heldOf u) (byteOf e) ≡ byteFor (answerOf P (step P u e))
+    answer-is = ap (λ (d : Done size D). 2 * D .pin (d .companion) + cond (d .line) 1 0) (event-is u e)
+
+  -- a list of events
+  run-is : (u : Bus) (es : Events) → after (heldOf u) (bytesOf es) ≡ heldOf (run P u es)
+  run-is u [] = refl
+  run-is u (e ∷ es) = ap (λ (h : H). after h (bytesOf es)) (after-is u e) ∙ run-is (step P u e .state) es
+
+  answers-are : (u : Bus) (es : Events)
+      → answers (heldOf u) (bytesOf es) ≡ map byteFor (answersOf P (λ a. a) u es)
+  answers-are u [] = refl
+  answers-are u (e ∷ es) =
+      let rest = ap (λ (h : H). answers h (bytesOf es)) (after-is u e) ∙ answers-are (step P u e .state) es in
+      λ i. answer-is u e i ∷ rest i
+
+  lines-are : (u : Bus) (es : Events)
+      → linesOf (answers (heldOf u) (bytesOf es)) ≡ map bitFor (answersOf P (λ a. a .line) u es)
+  lines-are u [] = refl
+  lines-are u (e ∷ es) =
+      let o = step P u e in
+      let this = ap (λ (n : ℕ). n % 2) (answer-is u e) ∙ line-bit (answerOf P o .pin) (o .line) in
+      let rest = ap (λ (h : H). linesOf (answers h (bytesOf es))) (after-is u e) ∙ lines-are (o .state) es in
+      λ i. this i ∷ rest i
+
+  steady-is : (u : Bus) (es : Events) → SteadyIn (heldOf u) es → WritesSteady P u es
+  steady-is u [] h = tt
+  steady-is u (e ∷ es) h =
+      let k = after-is u e in
+      let this =
+      subst (λ (z : H). IfWritten (u .phase) e (D .guard (z .companion) ≡ D .guard (u .companion))) k (h .0) in
+      (this, steady-is (step P u e .state) es (subst (λ (z : H). SteadyIn z es) k (h .1)))
+
+  module _ (u : Bus) (xs ys : Events) (l : List (PartyEvent P)) (r : Isolated P u xs ys l) where
+    abbrev all : List ℕ
+    all = bytesOf (eventsOf l)
+
+    store-alike : {Z : Type 0} (part : Cells → Z)
+        → part (storeIn (after (heldOf u) all)) ≡ part (storeIn (after (heldOf u) (bytesOf xs)))
+    store-alike part =
+        ap (λ (h : H). part (storeIn h)) (run-is u (eventsOf l))
+        ∙ (ap part (r .memory) ∙ sym (ap (λ (h : H). part (storeIn h)) (run-is u xs)))
+
+    desk-alike : after (heldOf u) all .companion ≡ after (heldOf u) (bytesOf ys) .companion
+    desk-alike =
+        ap (λ (h : H). h .companion) (run-is u (eventsOf l))
+        ∙ (r .companion ∙ sym (ap (λ (h : H). h .companion) (run-is u ys)))
+
+    lines-alike : linesOf (picked isMemory l (answers (heldOf u) all)) ≡ linesOf (answers (heldOf u) (bytesOf xs))
+    lines-alike =
+        sym (picked-map (λ n. n % 2) isMemory l (answers (heldOf u) all))
+        ∙ (ap (picked isMemory l) (lines-are u (eventsOf l))
+        ∙ (picked-map bitFor isMemory l (answersOf P (λ a. a .line) u (eventsOf l))
+        ∙ (ap (map bitFor) (r .memory-lines) ∙ sym (lines-are u xs))))
+
+    answers-alike : picked isCompanion l (answers (heldOf u) all) ≡ answers (heldOf u) (bytesOf ys)
+    answers-alike =
+        ap (picked isCompanion l) (answers-are u (eventsOf l))
+        ∙ (picked-map byteFor isCompanion l (answersOf P (λ a. a) u (eventsOf l))
+        ∙ (ap (map byteFor) (r .companion-answers) ∙ sym (answers-are u ys)))
+
+    demanded : bytes.Demanded size D (heldOf u) (bytesOf xs) (bytesOf ys) all l
+    demanded =
+        record {
+          memory = store-alike (λ m. m .bytes);
+          memory-address = store-alike (λ m. m .address);
+          memory-lines = lines-alike;
+          companion = desk-alike;
+          companion-answers = answers-alike;
+        }
+
+  machineOf : H → Bus
+  machineOf h = record { phase = h .bus .phase; memory = lent (h .memory) (h .bus .address); companion = h .companion }
+
+  powered : (h : H) → h .bus .power ≡ On → h ≡ heldOf (machineOf h)
+  unfolding machineOf
+  powered h e =
+      λ i. record {
+        bus = record { power = e i; phase = h .bus .phase; address = h .bus .address };
+        companion = h .companion;
+        memory = h .memory;
+      }
+
+  pub demand-three : OnlyWrites P → DemandThree size D
+  unfolding machineOf
+  demand-three only h xs ys l on idle wx wy merge steady =
+      let u = machineOf h in
+      let k = powered h on in
+      subst (λ (z : H). bytes.Demanded size D z (bytesOf xs) (bytesOf ys) (bytesOf (eventsOf l)) l) (sym k)
+      (demanded u xs ys l
+      (isolation P only u xs ys l idle wx wy merge
+      (steady-is u ys (subst (λ (z : H). SteadyIn z ys) k steady))))
