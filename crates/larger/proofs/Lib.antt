@@ -1,0 +1,10 @@
+-- SPDX-License-Identifier: Apache-2.0
+pub mod Addresses
+pub mod Edges
+pub mod Lists
+pub mod Memory
+pub mod Demand3
+pub mod Numbers
+pub mod Entry
+pub mod Sizes
+pub mod Example
