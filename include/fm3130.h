@@ -33,6 +33,8 @@
  *
  *   fm3130_judge        names the first answer in it that the rules do not give
  *
+ * The larger family, with event counters and a serial number, has a header of its own: fm31.h.
+ *
  * Three more functions, at the end, are about another maker's clock and need no device:
  *
  *   fm3130_trim_check    judges a trim setting that any program proposes
@@ -84,9 +86,9 @@ extern "C" {
  *   PATCH  nothing that a host can see, but for errors that were put right
  */
 #define FM3130_VERSION_MAJOR 0
-#define FM3130_VERSION_MINOR 3
+#define FM3130_VERSION_MINOR 4
 #define FM3130_VERSION_PATCH 0
-#define FM3130_VERSION "0.3.0"
+#define FM3130_VERSION "0.4.0"
 
 /* Sizes in bytes. The registers are the front of the image. */
 #define FM3130_IMAGE_BYTES 64
