@@ -229,7 +229,7 @@ uint64_t fm3164_run(uint8_t *image, uint64_t image_length, uint8_t *memory, uint
  *   3      event is above 9
  *   4      told_length is 0
  *
- * Proved: StepSettled, crates/rig31/specs/Step.antt. Allocates nothing, keeps nothing, thread-safe
+ * Proved: SingleSettled, crates/rig31/specs/Single.antt. Allocates nothing, keeps nothing, thread-safe
  * on distinct buffers.
  */
 uint64_t fm3164_step(uint8_t *image, uint64_t image_length, uint8_t *memory, uint64_t memory_length,
@@ -301,7 +301,7 @@ uint64_t fm31256_run(uint8_t *image, uint64_t image_length, uint8_t *memory, uin
                      const uint8_t *events, uint64_t events_length, uint8_t *answers,
                      uint64_t answers_length);
 
-/* Does one event; see fm3164_step. Proved: StepSettled, crates/rig31/specs/Step.antt. */
+/* Does one event; see fm3164_step. Proved: SingleSettled, crates/rig31/specs/Single.antt. */
 uint64_t fm31256_step(uint8_t *image, uint64_t image_length, uint8_t *memory,
                       uint64_t memory_length, uint64_t event, uint8_t *told, uint64_t told_length);
 

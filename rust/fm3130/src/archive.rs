@@ -5,6 +5,7 @@
 //! are never null, and an exclusive slice overlaps no other slice that is alive: each function here
 //! takes slices and hands on exactly their pointers and lengths, so safe code cannot break the rule.
 
+use crate::family::{self, Size};
 use crate::master;
 use crate::refusal::Refusal;
 use crate::trim::{Setting, Sign};
@@ -156,6 +157,70 @@ extern "C" {
     fn fm3130_trim_residue(error: i32, sign: u64, code: u64) -> i32;
 
     fn fm3130_trim_propose(error: i32) -> u64;
+
+    fn fm31_fresh(image: *mut u8, image_length: u64) -> u64;
+
+    fn fm3164_run(
+        image: *mut u8,
+        image_length: u64,
+        memory: *mut u8,
+        memory_length: u64,
+        events: *const u8,
+        events_length: u64,
+        answers: *mut u8,
+        answers_length: u64,
+    ) -> u64;
+
+    fn fm31256_run(
+        image: *mut u8,
+        image_length: u64,
+        memory: *mut u8,
+        memory_length: u64,
+        events: *const u8,
+        events_length: u64,
+        answers: *mut u8,
+        answers_length: u64,
+    ) -> u64;
+
+    fn fm3164_step(
+        image: *mut u8,
+        image_length: u64,
+        memory: *mut u8,
+        memory_length: u64,
+        event: u64,
+        told: *mut u8,
+        told_length: u64,
+    ) -> u64;
+
+    fn fm31256_step(
+        image: *mut u8,
+        image_length: u64,
+        memory: *mut u8,
+        memory_length: u64,
+        event: u64,
+        told: *mut u8,
+        told_length: u64,
+    ) -> u64;
+
+    fn fm3164_view_number(
+        image: *const u8,
+        image_length: u64,
+        memory: *const u8,
+        memory_length: u64,
+        selector: u64,
+        start: u64,
+        length: u64,
+    ) -> u64;
+
+    fn fm31256_view_number(
+        image: *const u8,
+        image_length: u64,
+        memory: *const u8,
+        memory_length: u64,
+        selector: u64,
+        start: u64,
+        length: u64,
+    ) -> u64;
 }
 
 /// Runs a list; returns the number of events done.
@@ -410,4 +475,94 @@ pub fn trim_residue(error: i32, setting: Setting) -> i32 {
 pub fn trim_propose(error: i32) -> u64 {
     // SAFETY: numbers alone go in and out, and the archive asks nothing of them.
     unsafe { fm3130_trim_propose(error) }
+}
+
+/// Writes the fresh image of the family.
+pub fn family_fresh(image: &mut [u8]) -> Result<(), family::Refusal> {
+    // SAFETY: pointer and length are those of one live, exclusive slice.
+    let number = unsafe { fm31_fresh(image.as_mut_ptr(), image.len() as u64) };
+    family::Refusal::outcome_of(number)
+}
+
+/// Runs a list on a part of the family.
+pub fn family_run(
+    size: Size,
+    image: &mut [u8],
+    memory: &mut [u8],
+    events: &[u8],
+    answers: &mut [u8],
+) -> Result<(), family::Refusal> {
+    let entry = match size {
+        Size::Kb64 => fm3164_run,
+        Size::Kb256 => fm31256_run,
+    };
+    // SAFETY: as in `run`: the pointers and lengths of live slices, exclusive where they are written.
+    let number = unsafe {
+        entry(
+            image.as_mut_ptr(),
+            image.len() as u64,
+            memory.as_mut_ptr(),
+            memory.len() as u64,
+            events.as_ptr(),
+            events.len() as u64,
+            answers.as_mut_ptr(),
+            answers.len() as u64,
+        )
+    };
+    family::Refusal::outcome_of(number)
+}
+
+/// Does one event on a part of the family; its answer byte goes to the first byte of `told`.
+pub fn family_step(
+    size: Size,
+    image: &mut [u8],
+    memory: &mut [u8],
+    event: u64,
+    told: &mut [u8],
+) -> Result<(), family::Refusal> {
+    let entry = match size {
+        Size::Kb64 => fm3164_step,
+        Size::Kb256 => fm31256_step,
+    };
+    // SAFETY: as in `run`: the pointers and lengths of live, exclusive slices.
+    let number = unsafe {
+        entry(
+            image.as_mut_ptr(),
+            image.len() as u64,
+            memory.as_mut_ptr(),
+            memory.len() as u64,
+            event,
+            told.as_mut_ptr(),
+            told.len() as u64,
+        )
+    };
+    family::Refusal::outcome_of(number)
+}
+
+/// Asks the viewer's number of a part of the family.
+pub fn family_view_number(
+    size: Size,
+    image: &[u8],
+    memory: &[u8],
+    selector: u64,
+    start: u64,
+    length: u64,
+) -> Result<(), family::Refusal> {
+    let entry = match size {
+        Size::Kb64 => fm3164_view_number,
+        Size::Kb256 => fm31256_view_number,
+    };
+    // SAFETY: each pointer and length is a live slice's own, and the archive only reads.
+    let number = unsafe {
+        entry(
+            image.as_ptr(),
+            image.len() as u64,
+            memory.as_ptr(),
+            memory.len() as u64,
+            selector,
+            start,
+            length,
+        )
+    };
+    family::Refusal::outcome_of(number)
 }

@@ -20,6 +20,8 @@
 //! * [`Refusal`] is why an entry did nothing, with 01's number.
 //! * [`capture`] writes and judges captures: a recorded run in one file.
 //! * [`Lamps`] is the proving record beside a device: which of eight lamps may be shown lit.
+//! * [`family`] is the larger family, with event counters and a serial number: [`family::Fm3164`] and
+//!   [`family::Fm31256`].
 //! * [`trim`] proposes and checks trim settings of another maker's clock; it needs no device.
 //!
 //! No function of this crate panics, whatever it is given.
@@ -55,6 +57,7 @@ mod change;
 mod device;
 mod entries;
 pub mod event;
+pub mod family;
 mod lamps;
 pub mod master;
 pub mod masters;

@@ -7,7 +7,7 @@ use crate::answer::Pin;
 use crate::calendar::Calendar;
 use crate::{IMAGE_BYTES, REGISTER_COUNT};
 
-// The places in the image after the registers.
+// The places in the image after the registers. All parts have the last eight in common.
 const CORE: usize = 15;
 const COMPANION_ADDRESS: usize = 22;
 const MEMORY_ADDRESS_HIGH: usize = 23;
@@ -107,6 +107,40 @@ impl fmt::Display for Phase {
     }
 }
 
+/// The bytes of a well-formed image that all parts have at the same places: addresses, supplies, and
+/// where a transfer stands.
+pub(crate) struct BusBytes {
+    pub companion_address: u8,
+    pub memory_address: u16,
+    pub power: Power,
+    pub phase: Phase,
+    pub clocks: u8,
+    pub byte: u8,
+    pub first_address_byte: u8,
+}
+
+impl BusBytes {
+    /// Those of an image.
+    pub fn of_image(image: &[u8; IMAGE_BYTES]) -> BusBytes {
+        BusBytes {
+            companion_address: image[COMPANION_ADDRESS],
+            memory_address: u16::from_be_bytes([
+                image[MEMORY_ADDRESS_HIGH],
+                image[MEMORY_ADDRESS_LOW],
+            ]),
+            power: match image[POWER] {
+                0 => Power::On,
+                1 => Power::Backup,
+                _ => Power::None,
+            },
+            phase: Phase::of_byte(image[PHASE]),
+            clocks: image[CLOCKS],
+            byte: image[BYTE],
+            first_address_byte: image[FIRST_ADDRESS_BYTE],
+        }
+    }
+}
+
 /// What a well-formed image holds. It is a copy to look at; the image stays the truth.
 ///
 /// ```
@@ -148,23 +182,17 @@ impl State {
         registers.copy_from_slice(&image[..REGISTER_COUNT]);
         let mut core = [0; 7];
         core.copy_from_slice(&image[CORE..COMPANION_ADDRESS]);
+        let bus = BusBytes::of_image(image);
         State {
             registers,
             core: Calendar::from_bytes(core),
-            companion_address: image[COMPANION_ADDRESS],
-            memory_address: u16::from_be_bytes([
-                image[MEMORY_ADDRESS_HIGH],
-                image[MEMORY_ADDRESS_LOW],
-            ]),
-            power: match image[POWER] {
-                0 => Power::On,
-                1 => Power::Backup,
-                _ => Power::None,
-            },
-            phase: Phase::of_byte(image[PHASE]),
-            clocks: image[CLOCKS],
-            byte: image[BYTE],
-            first_address_byte: image[FIRST_ADDRESS_BYTE],
+            companion_address: bus.companion_address,
+            memory_address: bus.memory_address,
+            power: bus.power,
+            phase: bus.phase,
+            clocks: bus.clocks,
+            byte: bus.byte,
+            first_address_byte: bus.first_address_byte,
         }
     }
 

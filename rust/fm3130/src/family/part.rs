@@ -1,0 +1,412 @@
+// SPDX-License-Identifier: Apache-2.0
+//! A part of the family that owns its state image and its memory.
+
+use std::fmt;
+use std::marker::PhantomData;
+
+use super::refusal::Refusal;
+use super::size::{ChosenSize, Kb256, Kb64, Size};
+use super::state::{Counts, State};
+use super::{entries, event, REGISTER_COUNT};
+use crate::state::{Phase, Power};
+use crate::IMAGE_BYTES;
+
+/// The slave bytes: the last bit asks for reading.
+const MEMORY: u8 = 0xA0;
+const COMPANION: u8 = 0xD0;
+const READ: u8 = 0x01;
+
+/// The clocks of a byte.
+const CLOCKS_OF_A_BYTE: usize = 9;
+
+/// The 64Kb part: 8,192 bytes of memory.
+pub type Fm3164 = Part<Kb64>;
+
+/// The 256Kb part: 32,768 bytes of memory.
+pub type Fm31256 = Part<Kb256>;
+
+/// One part of the family: a state image, and the memory of its size.
+///
+/// The image is always that of a well-formed state: only the archive writes it, and
+/// [`Part::from_parts`] lets the archive judge one that comes from outside.
+#[derive(Clone, PartialEq, Eq)]
+pub struct Part<Chosen: ChosenSize> {
+    image: [u8; IMAGE_BYTES],
+    memory: Vec<u8>,
+    size: PhantomData<Chosen>,
+}
+
+impl<Chosen: ChosenSize> Part<Chosen> {
+    /// The part's size.
+    pub const SIZE: Size = Chosen::SIZE;
+
+    /// The fresh device; its memory is all 0.
+    ///
+    /// ```
+    /// use fm3130::family::{Fm31256, Fm3164};
+    ///
+    /// assert_eq!(Fm3164::fresh().registers()[0], 0x60); // POR and LB
+    /// assert_eq!(Fm3164::fresh().memory().len(), 8_192);
+    /// assert_eq!(Fm31256::fresh().memory().len(), 32_768);
+    /// ```
+    pub fn fresh() -> Part<Chosen> {
+        let mut image = [0; IMAGE_BYTES];
+        // Number 0 for every image of 64 bytes, so there is nothing to hand on.
+        let _ = entries::fresh(&mut image);
+        Part {
+            image,
+            memory: vec![0; Chosen::SIZE.bytes()],
+            size: PhantomData,
+        }
+    }
+
+    /// A device made of an image and a memory, as another device or a C host left them.
+    ///
+    /// # Errors
+    ///
+    /// [`Refusal::MemoryLength`] or [`Refusal::Image`].
+    ///
+    /// ```
+    /// use fm3130::family::{Fm31256, Fm3164, Refusal};
+    ///
+    /// let device = Fm3164::fresh();
+    /// assert_eq!(Fm3164::from_parts(device.image(), device.memory()), Ok(device.clone()));
+    /// assert_eq!(
+    ///     Fm31256::from_parts(device.image(), device.memory()),
+    ///     Err(Refusal::MemoryLength)
+    /// );
+    /// assert_eq!(Fm3164::from_parts(&[0; 64], device.memory()), Err(Refusal::Image));
+    /// ```
+    pub fn from_parts(image: &[u8], memory: &[u8]) -> Result<Part<Chosen>, Refusal> {
+        if memory.len() != Chosen::SIZE.bytes() {
+            return Err(Refusal::MemoryLength);
+        }
+        let mut device = Part {
+            image: image.try_into().or(Err(Refusal::Image))?,
+            memory: memory.to_vec(),
+            size: PhantomData,
+        };
+        // An empty list changes nothing and is refused if no well-formed state writes the image.
+        device.run_into(&[], &mut [])?;
+        Ok(device)
+    }
+
+    /// Runs a list of events; returns an answer for each.
+    ///
+    /// # Errors
+    ///
+    /// [`Refusal::UnknownEvent`]; then no event was done.
+    ///
+    /// ```
+    /// use fm3130::family::{event, Fm3164};
+    ///
+    /// let mut device = Fm3164::fresh();
+    /// assert_eq!(device.run(&[event::START, event::EDGE_1, event::STOP])?, [1, 1, 1]);
+    /// assert!(device.run(&[event::START, 10]).is_err());
+    /// # Ok::<(), fm3130::family::Refusal>(())
+    /// ```
+    pub fn run(&mut self, events: &[u8]) -> Result<Vec<u8>, Refusal> {
+        let mut answers = vec![0; events.len()];
+        self.run_into(events, &mut answers)?;
+        Ok(answers)
+    }
+
+    /// Runs a list of events; the answers go to the first bytes of `answers`, the others stay.
+    ///
+    /// # Errors
+    ///
+    /// [`Refusal::UnknownEvent`] or [`Refusal::ShortAnswers`]; then no event was done.
+    ///
+    /// ```
+    /// use fm3130::family::{event, Fm3164, Refusal};
+    ///
+    /// let mut device = Fm3164::fresh();
+    /// let mut answers = [7; 3];
+    /// device.run_into(&[event::EDGE_1; 2], &mut answers)?;
+    /// assert_eq!(answers, [1, 1, 7]);
+    /// assert_eq!(device.run_into(&[event::TICK; 4], &mut answers), Err(Refusal::ShortAnswers));
+    /// # Ok::<(), Refusal>(())
+    /// ```
+    pub fn run_into(&mut self, events: &[u8], answers: &mut [u8]) -> Result<(), Refusal> {
+        let (image, memory) = (&mut self.image, &mut self.memory[..]);
+        entries::run(Chosen::SIZE, image, memory, events, answers)
+    }
+
+    /// Does one event; returns its answer.
+    ///
+    /// # Errors
+    ///
+    /// [`Refusal::UnknownEvent`]; then nothing was done.
+    ///
+    /// ```
+    /// use fm3130::family::{event, Fm31256};
+    ///
+    /// let mut device = Fm31256::fresh();
+    /// assert_eq!(device.step(event::EDGE_2)?, 1);
+    /// assert_eq!(device.counts().two(), 1);
+    /// # Ok::<(), fm3130::family::Refusal>(())
+    /// ```
+    pub fn step(&mut self, event: u8) -> Result<u8, Refusal> {
+        let mut told = [0];
+        let (image, memory) = (&mut self.image, &mut self.memory[..]);
+        entries::step(Chosen::SIZE, image, memory, event, &mut told)?;
+        Ok(told[0])
+    }
+
+    /// Writes registers over the bus, from an address on and over 18h to 09h: one whole transaction.
+    /// Returns for each byte whether the device acknowledged it.
+    ///
+    /// None is acknowledged if the address is outside 09h to 18h, or without power. A byte for a locked
+    /// serial number is acknowledged and not stored.
+    ///
+    /// ```
+    /// use fm3130::family::{registers, Fm3164};
+    ///
+    /// let mut device = Fm3164::fresh();
+    /// assert_eq!(device.write_registers(registers::SERIAL, &[1, 2, 3]), [true; 3]);
+    /// assert_eq!(device.state().serial(), [1, 2, 3, 0, 0, 0, 0, 0]);
+    /// assert_eq!(device.write_registers(0x08, &[1]), [false]);
+    /// ```
+    pub fn write_registers(&mut self, address: u8, bytes: &[u8]) -> Vec<bool> {
+        self.write(&[COMPANION, address], bytes)
+    }
+
+    /// Reads so many registers over the bus, from an address on and over 18h to 09h: one whole
+    /// transaction. Returns the bytes; none if the device did not acknowledge its address.
+    ///
+    /// ```
+    /// use fm3130::family::{registers, Fm3164};
+    ///
+    /// let mut device = Fm3164::fresh();
+    /// assert_eq!(device.read_registers(registers::LAST, 2), [0x00, 0x60]);
+    /// assert_eq!(device.read_registers(0x19, 2), []);
+    /// ```
+    pub fn read_registers(&mut self, address: u8, count: usize) -> Vec<u8> {
+        self.read(&[COMPANION, address], count)
+    }
+
+    /// Writes bytes to the memory over the bus, from an address on and over its end to 0000h: one whole
+    /// transaction. Returns for each byte whether the device acknowledged it. Address bits above the
+    /// size are ignored.
+    ///
+    /// ```
+    /// use fm3130::family::Fm31256;
+    ///
+    /// let mut device = Fm31256::fresh();
+    /// assert_eq!(device.write_memory(0x7FFF, &[0x5A, 0xC3]), [true, true]);
+    /// assert_eq!((device.memory()[0x7FFF], device.memory()[0x0000]), (0x5A, 0xC3));
+    /// ```
+    pub fn write_memory(&mut self, address: u16, bytes: &[u8]) -> Vec<bool> {
+        let [high, low] = address.to_be_bytes();
+        self.write(&[MEMORY, high, low], bytes)
+    }
+
+    /// Reads so many bytes of the memory over the bus, from an address on: one whole transaction.
+    /// Returns the bytes; none if the device did not acknowledge.
+    ///
+    /// ```
+    /// use fm3130::family::Fm3164;
+    ///
+    /// let mut device = Fm3164::fresh();
+    /// device.write_memory(0x1FFF, &[0x5A, 0xC3]);
+    /// assert_eq!(device.read_memory(0xFFFF, 2), [0x5A, 0xC3]);
+    /// ```
+    pub fn read_memory(&mut self, address: u16, count: usize) -> Vec<u8> {
+        let [high, low] = address.to_be_bytes();
+        self.read(&[MEMORY, high, low], count)
+    }
+
+    /// A Start, the bytes that name a place, data bytes and a Stop.
+    fn write(&mut self, place: &[u8], bytes: &[u8]) -> Vec<bool> {
+        let mut events = vec![event::START];
+        for byte in place.iter().chain(bytes) {
+            events.extend(event::written_byte(*byte));
+        }
+        events.push(event::STOP);
+        let answers = self.answers_to(&events);
+        let flags = acknowledges(&answers[1..]);
+        let (named, told) = flags.split_at(place.len());
+        match named.iter().all(|flag| *flag) {
+            true => told.to_vec(),
+            false => vec![false; bytes.len()],
+        }
+    }
+
+    /// A Start, the bytes that name a place, a repeated Start, the slave byte for reading, data bytes,
+    /// the last of them not acknowledged, and a Stop.
+    fn read(&mut self, place: &[u8], count: usize) -> Vec<u8> {
+        let mut events = vec![event::START];
+        for byte in place {
+            events.extend(event::written_byte(*byte));
+        }
+        let again = events.len();
+        events.push(event::START);
+        events.extend(event::written_byte(place[0] | READ));
+        let data = events.len();
+        for left in (0..count).rev() {
+            events.extend(event::read_byte(left > 0));
+        }
+        events.push(event::STOP);
+        let answers = self.answers_to(&events);
+        let mut named = acknowledges(&answers[1..again]);
+        named.extend(acknowledges(&answers[again + 1..data]));
+        match named.iter().all(|flag| *flag) {
+            true => bytes_of(&answers[data..]),
+            false => Vec::new(),
+        }
+    }
+
+    /// The answers to a master's events, which are known, so that the list run takes them.
+    fn answers_to(&mut self, events: &[u8]) -> Vec<u8> {
+        let mut answers = vec![0; events.len()];
+        // Number 0: the image is a state's, and every event of a master's transaction is below 10.
+        let _ = self.run_into(events, &mut answers);
+        answers
+    }
+
+    /// The state image: its first 16 bytes are the registers.
+    ///
+    /// ```
+    /// let device = fm3130::family::Fm3164::fresh();
+    /// assert_eq!(device.image()[..16], device.registers()[..]);
+    /// ```
+    pub fn image(&self) -> &[u8; IMAGE_BYTES] {
+        &self.image
+    }
+
+    /// The memory.
+    ///
+    /// ```
+    /// assert_eq!(fm3130::family::Fm3164::fresh().memory(), [0; 8192]);
+    /// ```
+    pub fn memory(&self) -> &[u8] {
+        &self.memory
+    }
+
+    /// The memory, to preset it from outside the bus. FRAM may hold any bytes.
+    ///
+    /// ```
+    /// let mut device = fm3130::family::Fm31256::fresh();
+    /// device.memory_mut().fill(0xFF);
+    /// assert_eq!(device.memory()[0x7FFF], 0xFF);
+    /// ```
+    pub fn memory_mut(&mut self) -> &mut [u8] {
+        &mut self.memory
+    }
+
+    /// Registers 09h to 18h; [`State::register`] finds one by its address.
+    ///
+    /// ```
+    /// use fm3130::family::{registers, Fm3164};
+    ///
+    /// let device = Fm3164::fresh();
+    /// assert_eq!(device.registers()[0], registers::POR | registers::LB);
+    /// ```
+    pub fn registers(&self) -> &[u8; REGISTER_COUNT] {
+        match self.image.first_chunk() {
+            Some(registers) => registers,
+            None => &[0; REGISTER_COUNT],
+        }
+    }
+
+    /// A part of the memory or of the registers, never a copy; see [`crate::selector`].
+    ///
+    /// # Errors
+    ///
+    /// [`Refusal::Selector`] or [`Refusal::PastTheEnd`].
+    ///
+    /// ```
+    /// use fm3130::family::{Fm3164, Refusal};
+    /// use fm3130::selector;
+    ///
+    /// let device = Fm3164::fresh();
+    /// assert_eq!(device.view(selector::REGISTERS, 0, 2)?, [0x60, 0x00]);
+    /// assert_eq!(device.view(selector::MEMORY, 8192, 1), Err(Refusal::PastTheEnd));
+    /// # Ok::<(), Refusal>(())
+    /// ```
+    pub fn view(&self, selector: u64, start: u64, length: u64) -> Result<&[u8], Refusal> {
+        let (image, memory) = (&self.image, &self.memory);
+        entries::view(Chosen::SIZE, image, memory, selector, start, length)
+    }
+
+    /// All that the image holds, taken apart.
+    ///
+    /// ```
+    /// let state = fm3130::family::Fm3164::fresh().state();
+    /// assert!(!state.is_locked() && !state.is_frozen() && !state.is_joined());
+    /// ```
+    pub fn state(&self) -> State {
+        State::of_image(&self.image)
+    }
+
+    /// The two counters as they run.
+    ///
+    /// ```
+    /// use fm3130::family::{event, Fm3164};
+    ///
+    /// let mut device = Fm3164::fresh();
+    /// device.run(&[event::EDGE_1; 300])?;
+    /// assert_eq!(device.counts().one(), 300);
+    /// # Ok::<(), fm3130::family::Refusal>(())
+    /// ```
+    pub fn counts(&self) -> Counts {
+        self.state().counts()
+    }
+
+    /// Which supplies are there.
+    ///
+    /// ```
+    /// use fm3130::family::{event, Fm3164};
+    /// use fm3130::Power;
+    ///
+    /// let mut device = Fm3164::fresh();
+    /// device.step(event::POWER_LOST_WITH_BACKUP)?;
+    /// assert_eq!(device.power(), Power::Backup);
+    /// # Ok::<(), fm3130::family::Refusal>(())
+    /// ```
+    pub fn power(&self) -> Power {
+        self.state().power
+    }
+
+    /// What byte is under way on the bus.
+    ///
+    /// ```
+    /// assert_eq!(fm3130::family::Fm3164::fresh().phase(), fm3130::Phase::Idle);
+    /// ```
+    pub fn phase(&self) -> Phase {
+        self.state().phase
+    }
+}
+
+impl<Chosen: ChosenSize> Default for Part<Chosen> {
+    fn default() -> Part<Chosen> {
+        Part::fresh()
+    }
+}
+
+/// The state in words; the memory would hide it.
+impl<Chosen: ChosenSize> fmt::Debug for Part<Chosen> {
+    fn fmt(&self, formatter: &mut fmt::Formatter<'_>) -> fmt::Result {
+        formatter
+            .debug_struct(match Chosen::SIZE {
+                Size::Kb64 => "Fm3164",
+                Size::Kb256 => "Fm31256",
+            })
+            .field("state", &self.state())
+            .finish_non_exhaustive()
+    }
+}
+
+/// Whether each whole byte in some answers was acknowledged: the line is low at its ninth clock.
+fn acknowledges(answers: &[u8]) -> Vec<bool> {
+    let bytes = answers.chunks_exact(CLOCKS_OF_A_BYTE);
+    bytes.map(|clocks| clocks[8] & 1 == 0).collect()
+}
+
+/// The value of each whole byte in some answers, high bit first.
+fn bytes_of(answers: &[u8]) -> Vec<u8> {
+    let bytes = answers.chunks_exact(CLOCKS_OF_A_BYTE);
+    bytes
+        .map(|clocks| clocks[..8].iter().fold(0, |byte, bit| byte << 1 | bit & 1))
+        .collect()
+}

@@ -1,0 +1,94 @@
+// SPDX-License-Identifier: Apache-2.0
+//! Why an entry of the family did nothing.
+
+use std::error::Error;
+use std::fmt;
+
+/// Why an entry of the family did nothing. Under every refusal nothing was written.
+///
+/// They are tested in the order of their numbers, and the first that applies is given.
+///
+/// ```
+/// use fm3130::family::{Fm31256, Refusal};
+///
+/// let refusal = Fm31256::fresh().run(&[0, 1, 10]).unwrap_err();
+/// assert_eq!(refusal, Refusal::UnknownEvent);
+/// assert_eq!(refusal.to_string(), "some event byte is above 9 (number 3)");
+/// ```
+#[derive(Clone, Copy, Debug, PartialEq, Eq, Hash)]
+pub enum Refusal {
+    /// 1: memory has the wrong length for the chosen size.
+    MemoryLength,
+    /// 2: image is not 64 bytes, or no well-formed state of the chosen size writes it. The viewer
+    /// tests the length only.
+    Image,
+    /// 3: some event byte is above 9.
+    UnknownEvent,
+    /// 4: answers shorter than events.
+    ShortAnswers,
+    /// 5: the viewer's selector is neither 0 (memory) nor 1 (registers).
+    Selector,
+    /// 6: the viewer's start + length passes the end of the chosen bytes.
+    PastTheEnd,
+}
+
+impl Refusal {
+    /// The number, 1 to 6.
+    ///
+    /// ```
+    /// assert_eq!(fm3130::family::Refusal::Image.number(), 2);
+    /// ```
+    pub fn number(self) -> u64 {
+        match self {
+            Refusal::MemoryLength => 1,
+            Refusal::Image => 2,
+            Refusal::UnknownEvent => 3,
+            Refusal::ShortAnswers => 4,
+            Refusal::Selector => 5,
+            Refusal::PastTheEnd => 6,
+        }
+    }
+
+    /// When it is given.
+    ///
+    /// ```
+    /// use fm3130::family::Refusal;
+    /// assert_eq!(Refusal::MemoryLength.words(), "memory has the wrong length for the chosen size");
+    /// ```
+    pub fn words(self) -> &'static str {
+        match self {
+            Refusal::MemoryLength => "memory has the wrong length for the chosen size",
+            Refusal::Image => {
+                "image is not 64 bytes, or no well-formed state of the chosen size writes it"
+            }
+            Refusal::UnknownEvent => "some event byte is above 9",
+            Refusal::ShortAnswers => "answers shorter than events",
+            Refusal::Selector => "selector neither 0 (memory) nor 1 (registers)",
+            Refusal::PastTheEnd => "start + length (exact sum) passes the end of the chosen bytes",
+        }
+    }
+
+    /// The outcome that a number of the archive stands for.
+    ///
+    /// The archive is proved to give no number above 6; should one come all the same, it counts as
+    /// the last refusal rather than as a reason to panic.
+    pub(crate) fn outcome_of(number: u64) -> Result<(), Refusal> {
+        Err(match number {
+            0 => return Ok(()),
+            1 => Refusal::MemoryLength,
+            2 => Refusal::Image,
+            3 => Refusal::UnknownEvent,
+            4 => Refusal::ShortAnswers,
+            5 => Refusal::Selector,
+            _ => Refusal::PastTheEnd,
+        })
+    }
+}
+
+impl fmt::Display for Refusal {
+    fn fmt(&self, formatter: &mut fmt::Formatter<'_>) -> fmt::Result {
+        write!(formatter, "{} (number {})", self.words(), self.number())
+    }
+}
+
+impl Error for Refusal {}
