@@ -45,11 +45,12 @@ function bundle(path, done = new Set(), isLast = true) {
   return below + wrapped(path, text, isLast);
 }
 
-/** The bus scripts of scripts/ by name. */
+/** The bus scripts of scripts/ by name, but those for another part, which say so in a comment. */
 function examples() {
   const folder = join(TOP, 'scripts');
   const names = readdirSync(folder).filter((name) => name.endsWith('.bus')).sort();
-  return Object.fromEntries(names.map((name) => [name, readFileSync(join(folder, name), 'utf8')]));
+  const scripts = names.map((name) => [name, readFileSync(join(folder, name), 'utf8')]);
+  return Object.fromEntries(scripts.filter(([, text]) => !text.includes('--part ')));
 }
 
 const [module, target] = process.argv.slice(2);

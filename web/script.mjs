@@ -10,6 +10,9 @@ const MOST_TIMES = 4294967295;
 
 const KNOWN_WORDS = 'known: [ ] r r+ R r- t lost gone power, bytes as A0 or 0xA0, clocks as {0110}';
 
+/** Words for parts with counters, which the page does not play; as bytes they would be read by accident. */
+const EDGES = ['c1', 'c2'];
+
 /** What the master does at the ninth clock of a byte that it reads. */
 const ninth = Object.freeze({ BY_WHAT_FOLLOWS: 0, ACKNOWLEDGE: 1, RELEASE: 2 });
 
@@ -164,6 +167,11 @@ class Line {
     }
     const word = this.signs.slice(begin, this.next).join('');
     const wrong = (message, advice) => new Problem(this.#since(begin), message, advice);
+    if (EDGES.includes(word)) {
+      const [pin, byte] = [word.replace('c', 'CNT'), word.toUpperCase()];
+      throw wrong(`${word} is an edge on ${pin}, and the FM3130 has no counters`,
+        `write ${byte} or 0x${byte} for the byte; fm3130 run --part fm3164 has counters`);
+    }
     return ACTIONS.get(word) ?? { kind: 'write', events: writtenByte(byteOf(word, wrong)) };
   }
 

@@ -153,6 +153,8 @@ class PageTest(unittest.TestCase):
 
     def test_every_example_says_what_the_command_says(self):
         for path in sorted(SCRIPTS.glob("*.bus")):
+            if "--part " in path.read_text():
+                continue  # a script of another part, which the page does not have
             self.choose(path.name)
             self.run_script()
             printed = self.command("run", str(path)).split("\n\n")[0].split("\n")

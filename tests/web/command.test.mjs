@@ -13,7 +13,7 @@ import { eventsOf, planOfText, Problem } from '../../web/script.mjs';
 import { busWords, phase } from '../../web/state.mjs';
 import { lineOf } from '../../web/transcript.mjs';
 import { memoryLines, wordsOfState } from '../../web/words.mjs';
-import { command, Folder, Random, SCRIPTS, standIn } from './support.mjs';
+import { command, Folder, Random, SCRIPTS, SCRIPTS_OF_OTHER_PARTS, standIn } from './support.mjs';
 import { randomScript, wrongScript } from './scripts.mjs';
 
 const RANDOM_SCRIPTS = 300;
@@ -95,6 +95,19 @@ test('a century is slept through', () => {
   const { output } = command('run', folder.write('script.bus', text));
   assert.equal(printed(play(text, standIn.fresh())), output);
   assert.match(output, /36525 days/);
+});
+
+test('a script of another part is a clear error, as the command says it', () => {
+  const folder = new Folder();
+  assert.ok(SCRIPTS_OF_OTHER_PARTS.length > 0);
+  for (const [, text] of [...SCRIPTS_OF_OTHER_PARTS, ['', '[ A0 c2 ]'], ['', 'c1*7']]) {
+    const path = folder.write('script.bus', text);
+    const { status, errors } = command('run', path);
+    assert.equal(status, 3);
+    assert.match(errors, /c[12] is an edge on CNT[12], and the FM3130 has no counters/);
+    assert.throws(() => planOfText(text), (problem) => `fm3130: ${problem.shownIn(path, text)}\n` === errors);
+  }
+  assert.equal(planOfText('C1 0xc1').length, 2);
 });
 
 test('wrong scripts have the same message, place and mark', () => {

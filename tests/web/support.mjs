@@ -14,9 +14,14 @@ export const TOP = fileURLToPath(new URL('../..', import.meta.url));
 /** The bytes of the module under test. */
 export const MODULE = readFileSync(join(TOP, 'build/web/fm3130.wasm'));
 
-/** The bus scripts of scripts/: names and texts. */
-export const SCRIPTS = readdirSync(join(TOP, 'scripts')).filter((name) => name.endsWith('.bus'))
+/** All bus scripts of scripts/: names and texts. */
+const ALL_SCRIPTS = readdirSync(join(TOP, 'scripts')).filter((name) => name.endsWith('.bus'))
   .map((name) => [name, readFileSync(join(TOP, 'scripts', name), 'utf8')]);
+
+/** Those for another part say so in a comment; the page does not play them. */
+const isOfAnotherPart = ([, text]) => text.includes('--part ');
+export const SCRIPTS_OF_OTHER_PARTS = ALL_SCRIPTS.filter(isOfAnotherPart);
+export const SCRIPTS = ALL_SCRIPTS.filter((script) => !isOfAnotherPart(script));
 
 export const standIn = await load(MODULE);
 

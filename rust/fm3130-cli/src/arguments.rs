@@ -5,6 +5,7 @@ use std::collections::BTreeMap;
 use std::ffi::{OsStr, OsString};
 use std::path::PathBuf;
 
+use crate::chip::Part;
 use crate::failure::{Failure, Outcome};
 
 /// The options that a command knows, with their dashes.
@@ -89,6 +90,14 @@ impl Arguments {
         self.values.get(option).map(PathBuf::from)
     }
 
+    /// The part that `--part` chooses; without it the FM3130.
+    pub fn part(&self) -> Outcome<Part> {
+        match self.values.get("--part") {
+            None => Ok(Part::Fm3130),
+            Some(word) => part_of(word),
+        }
+    }
+
     /// Says that there are more plain words than a command takes.
     pub fn at_most(&self, most: usize) -> Outcome {
         match self.plain.get(most) {
@@ -99,6 +108,16 @@ impl Arguments {
             ))),
         }
     }
+}
+
+/// The part that a word chooses.
+pub fn part_of(word: &OsStr) -> Outcome<Part> {
+    let word = word.to_string_lossy();
+    Part::of_word(&word).ok_or_else(|| {
+        wrong(format!(
+            "{word} is no part; there are fm3130, fm3164 and fm31256"
+        ))
+    })
 }
 
 /// A wrong command line.

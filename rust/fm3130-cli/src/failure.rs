@@ -5,7 +5,7 @@ use std::fmt;
 use std::io;
 use std::path::Path;
 
-use fm3130::Refusal;
+use crate::chip::Refused;
 
 /// Why a command did not do its work. Under each of them, files are as they were before.
 #[derive(Debug)]
@@ -50,7 +50,8 @@ impl Failure {
     }
 
     /// A file whose content the device refuses.
-    pub fn of_refusal(path: &Path, refusal: Refusal) -> Failure {
+    pub fn of_refusal(path: &Path, refusal: impl Into<Refused>) -> Failure {
+        let refusal = refusal.into();
         Failure::Refused(format!("{}: {refusal}", path.display()))
     }
 }

@@ -5,6 +5,7 @@
 //! master does, and a byte counts as read if the slave byte before it asks for reading.
 
 use fm3130::event;
+use fm3130::family::event::{EDGE_1, EDGE_2};
 
 use crate::bus;
 
@@ -31,7 +32,8 @@ pub struct Listing {
     listed: usize,
     /// The slave byte's bits among those.
     slave_bits: u32,
-    ticks: u64,
+    /// The ticks or edges not yet listed, and how many: they are put together.
+    run: Option<(u8, u64)>,
     expected: Expected,
 }
 
@@ -43,7 +45,7 @@ impl Listing {
             clocks: Vec::new(),
             listed: 0,
             slave_bits: 0,
-            ticks: 0,
+            run: None,
             expected: Expected::Nothing,
         }
     }
@@ -52,14 +54,14 @@ impl Listing {
     pub fn take(&mut self, event: u8) -> Vec<String> {
         match event {
             event::CLOCK_LOW | event::CLOCK_HIGH => self.take_clock(event == event::CLOCK_HIGH),
-            event::TICK => self.take_tick(),
+            event::TICK | EDGE_1 | EDGE_2 => self.take_repeated(event),
             other => self.take_other(other),
         }
     }
 
     /// A clock; the ninth completes a byte.
     fn take_clock(&mut self, level: bool) -> Vec<String> {
-        let mut lines: Vec<String> = self.list_ticks().into_iter().collect();
+        let mut lines: Vec<String> = self.list_run().into_iter().collect();
         self.clocks.push(level);
         self.taken += 1;
         if self.listed + self.clocks.len() == CLOCKS_OF_A_BYTE {
@@ -69,9 +71,14 @@ impl Listing {
         lines
     }
 
-    fn take_tick(&mut self) -> Vec<String> {
-        let lines = self.list_clocks().into_iter().collect();
-        self.ticks += 1;
+    /// A tick or an edge; those of one kind stand on one line.
+    fn take_repeated(&mut self, event: u8) -> Vec<String> {
+        let mut lines: Vec<String> = self.list_clocks().into_iter().collect();
+        if self.run.is_some_and(|(before, _)| before != event) {
+            lines.extend(self.list_run());
+        }
+        let (_, count) = self.run.get_or_insert((event, 0));
+        *count += 1;
         self.taken += 1;
         lines
     }
@@ -86,7 +93,7 @@ impl Listing {
     /// The lines of what is not yet listed.
     pub fn finish(&mut self) -> Vec<String> {
         let mut lines: Vec<String> = self.list_clocks().into_iter().collect();
-        lines.extend(self.list_ticks());
+        lines.extend(self.list_run());
         lines
     }
 
@@ -96,13 +103,17 @@ impl Listing {
         format!("{notation:<12} # {begin:>8}  {words}")
     }
 
-    fn list_ticks(&mut self) -> Option<String> {
-        let count = std::mem::take(&mut self.ticks);
-        match count {
-            0 => None,
-            1 => Some(self.line(1, "t", "tick")),
-            _ => Some(self.line(count, &format!("t*{count}"), "ticks")),
-        }
+    fn list_run(&mut self) -> Option<String> {
+        let (event, count) = self.run.take()?;
+        let (notation, one, many) = match event {
+            event::TICK => ("t", "tick", "ticks"),
+            EDGE_1 => (bus::word_of(event), "edge on CNT1", "edges on CNT1"),
+            _ => (bus::word_of(event), "edge on CNT2", "edges on CNT2"),
+        };
+        Some(match count {
+            1 => self.line(1, notation, one),
+            _ => self.line(count, &format!("{notation}*{count}"), many),
+        })
     }
 
     /// An event that stands alone; it begins a new count of clocks.
@@ -238,6 +249,15 @@ mod tests {
         events.extend([3, 2, 3, 2, 4, 4, 2, 2, 2, 2, 3]);
         events.extend(event::written_byte(0x12));
         assert_eq!(notations(&events), ["[", "{1010}", "t*2", "{00001}", "12"]);
+    }
+
+    #[test]
+    fn edges_are_put_together_by_their_pins() {
+        let events = [8, 8, 9, 4, 4, 8, 0, 3, 8, 9, 9, 2];
+        assert_eq!(
+            notations(&events),
+            ["c1*2", "c2", "t*2", "c1", "[", "{1}", "c1", "c2*2", "{0}"]
+        );
     }
 
     #[test]

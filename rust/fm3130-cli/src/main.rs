@@ -3,6 +3,7 @@
 //!
 //! * `commands`: one module a command, which reads its command line and does the work.
 //! * `script`: bus scripts, from text to events. `source`: events in chunks.
+//! * `chip`: the parts that can be chosen, and a device of any of them.
 //! * `bus`: the device does the events; clocks become bytes with a meaning.
 //! * `transcript`, `waveform`, `drawing`: what happened as text, VCD and SVG.
 //! * `listing`: event bytes back to a script. `words`: a device in words.
@@ -17,6 +18,7 @@
 
 mod arguments;
 mod bus;
+mod chip;
 mod commands;
 mod drawing;
 mod failure;

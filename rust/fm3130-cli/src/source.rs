@@ -7,6 +7,7 @@ use std::path::{Path, PathBuf};
 
 use fm3130::event;
 
+use crate::chip::Part;
 use crate::failure::{Failure, Outcome};
 use crate::script::Plan;
 
@@ -130,14 +131,14 @@ pub struct FileSource {
 }
 
 impl FileSource {
-    /// Opens an event file and tests all its bytes, as 01 asks: "all events are tested before the
+    /// Opens an event file for a part and tests all its bytes, as 01 asks: "all events are tested before the
     /// first is done".
-    pub fn open(path: &Path) -> Outcome<FileSource> {
+    pub fn open(path: &Path, part: Part) -> Outcome<FileSource> {
         if path.exists() && !path.is_file() {
             let words = format!("{}: not a regular file", path.display());
             return Err(Failure::Files(words));
         }
-        let total = test_events(FileSource::open_untested(path)?)?;
+        let total = test_events(FileSource::open_untested(path)?, part)?;
         let mut source = FileSource::open_untested(path)?;
         source.total = total;
         Ok(source)
@@ -168,8 +169,8 @@ impl Source for FileSource {
     }
 }
 
-/// The number of events of a source, all of which are known events.
-fn test_events(mut source: FileSource) -> Outcome<u64> {
+/// The number of events of a source, all of which are known events of a part.
+fn test_events(mut source: FileSource, part: Part) -> Outcome<u64> {
     let mut chunk = Vec::new();
     let mut total = 0;
     loop {
@@ -177,13 +178,13 @@ fn test_events(mut source: FileSource) -> Outcome<u64> {
         if chunk.is_empty() {
             return Ok(total);
         }
-        if let Some(place) = chunk.iter().position(|byte| *byte > event::LAST) {
+        if let Some(place) = chunk.iter().position(|byte| *byte > part.last_event()) {
             return Err(Failure::Script(format!(
                 "{}: byte {} is {:02X}h: {}",
                 source.path.display(),
                 total + place as u64,
                 chunk[place],
-                fm3130::Refusal::UnknownEvent
+                part.unknown_event()
             )));
         }
         total += chunk.len() as u64;

@@ -3,7 +3,10 @@
 
 use fm3130::{event, Power};
 
-use crate::bus::{Beside, BusByte, Direction, Happening, Listener, PowerChange, TickReport};
+use crate::bus::{
+    Beside, BusByte, Direction, EdgeReport, Happening, Listener, PowerChange, TickReport,
+};
+use crate::chip::Part;
 use crate::failure::Outcome;
 use crate::output::Output;
 
@@ -33,6 +36,7 @@ pub fn line_of(happening: &Happening) -> String {
         Happening::Stop => row("]", "Stop"),
         Happening::Byte(byte) => byte_line(byte),
         Happening::Ticks(report) => row(&ticks_notation(report), &report.to_string()),
+        Happening::Edges(report) => row(&edges_notation(report), &report.to_string()),
         Happening::Power(change) => power_line(change),
     }
 }
@@ -45,6 +49,13 @@ fn ticks_notation(report: &TickReport) -> String {
     match report.count {
         1 => "t".to_string(),
         count => format!("t*{count} "),
+    }
+}
+
+fn edges_notation(report: &EdgeReport) -> String {
+    match report.count {
+        1 => report.notation(),
+        _ => format!("{} ", report.notation()),
     }
 }
 
@@ -91,28 +102,39 @@ fn remark(byte: &BusByte) -> &'static str {
     }
 }
 
+/// What is lost with both supplies.
+fn lost(part: Part) -> &'static str {
+    match part {
+        Part::Fm3130 => "registers lost",
+        Part::Family(_) => "counters lost",
+    }
+}
+
 fn power_line(change: &PowerChange) -> String {
+    let lost = lost(change.part);
     let (notation, words) = match (change.event, change.before) {
-        (event::POWER_LOST_WITH_BACKUP, Power::On) => ("lost", "main power lost, backup present"),
-        (event::POWER_LOST_WITH_BACKUP, _) => ("lost", "main power is lost already"),
+        (event::POWER_LOST_WITH_BACKUP, Power::On) => {
+            ("lost", "main power lost, backup present".to_string())
+        }
+        (event::POWER_LOST_WITH_BACKUP, _) => ("lost", "main power is lost already".to_string()),
         (event::POWER_LOST_WITHOUT_BACKUP, Power::On) => {
-            ("gone", "main power lost, no backup: registers lost")
+            ("gone", format!("main power lost, no backup: {lost}"))
         }
         (event::POWER_LOST_WITHOUT_BACKUP, Power::Backup) => {
-            ("gone", "backup lost too: registers lost")
+            ("gone", format!("backup lost too: {lost}"))
         }
         (event::POWER_LOST_WITHOUT_BACKUP, Power::None) => {
-            ("gone", "both supplies are gone already")
+            ("gone", "both supplies are gone already".to_string())
         }
-        (_, Power::On) => ("power", "main power is there already"),
-        (_, Power::Backup) => ("power", "main power returned, POR set"),
-        (_, Power::None) => ("power", "main power returned"),
+        (_, Power::On) => ("power", "main power is there already".to_string()),
+        (_, Power::Backup) => ("power", "main power returned, POR set".to_string()),
+        (_, Power::None) => ("power", "main power returned".to_string()),
     };
     match change.inside {
         Some(clocks) => row(
             notation,
             &format!("{words}, after {clocks} clocks of a byte"),
         ),
-        None => row(notation, words),
+        None => row(notation, &words),
     }
 }

@@ -5,9 +5,11 @@
 //! pulse of SCL with SDA steady; SDA changes while SCL is high only in a Start or a Stop. Ticks and
 //! power events have wires of their own and are not to scale.
 
-use fm3130::{event, Pin, PinFunction, Power, State};
+use fm3130::family::event::{EDGE_1, EDGE_2};
+use fm3130::{event, Pin, PinFunction, Power};
 
 use crate::bus::{Moment, Observer, TickRun};
+use crate::chip::{Part, State};
 use crate::failure::Outcome;
 use crate::files::Replacement;
 
@@ -38,10 +40,24 @@ enum Wire {
     MainPower,
     Supplied,
     Tick,
+    FirstCounter,
+    SecondCounter,
+}
+
+impl Wire {
+    /// Whether a part has the wire: one has the pin of a clock, another those of counters.
+    fn is_of(index: usize, part: Part) -> bool {
+        let is_of_clock = (Wire::Pin as usize..=Wire::FunctionLow as usize).contains(&index);
+        let is_of_counters = index >= Wire::FirstCounter as usize;
+        match part {
+            Part::Fm3130 => !is_of_counters,
+            Part::Family(_) => !is_of_clock,
+        }
+    }
 }
 
 /// Letter in the file, name and meaning of each wire.
-const WIRES: [(char, &str, &str); 10] = [
+const WIRES: [(char, &str, &str); 12] = [
     ('!', "SCL", "serial clock"),
     (
         '"',
@@ -72,6 +88,16 @@ const WIRES: [(char, &str, &str); 10] = [
     ('(', "VDD", "main power"),
     (')', "SUPPLIED", "main power or backup is there"),
     ('*', "TICK", "a one-second tick, not to scale"),
+    (
+        '+',
+        "CNT1",
+        "an edge on CNT1, filtered by its polarity: a pulse",
+    ),
+    (
+        ',',
+        "CNT2",
+        "an edge on CNT2, filtered by its polarity: a pulse",
+    ),
 ];
 
 /// Writes a waveform file while a run goes on.
@@ -83,6 +109,7 @@ pub struct Waveform<'run> {
     written: Option<u64>,
     /// Ticks not yet drawn: a long run comes in several parts and is one pulse.
     ticks: u64,
+    part: Part,
     levels: [bool; WIRES.len()],
 }
 
@@ -94,11 +121,14 @@ impl<'run> Waveform<'run> {
             now: 0,
             written: None,
             ticks: 0,
+            part: state.part,
             levels: [true; WIRES.len()],
         };
         // Inside a transfer the clock rests low.
         waveform.levels[Wire::Clock as usize] = state.phase == fm3130::Phase::Idle;
-        waveform.levels[Wire::Tick as usize] = false;
+        for wire in [Wire::Tick, Wire::FirstCounter, Wire::SecondCounter] {
+            waveform.levels[wire as usize] = false;
+        }
         for (wire, level) in pin_and_supplies(state.pin(), state.power) {
             waveform.levels[wire as usize] = level;
         }
@@ -108,17 +138,22 @@ impl<'run> Waveform<'run> {
     }
 
     fn head(&mut self) -> Outcome {
-        let mut head = String::from("$version FM3130 stand-in $end\n");
-        for (_, name, meaning) in WIRES {
+        let numbered = WIRES.into_iter().zip(self.levels).enumerate();
+        let wires: Vec<_> = numbered
+            .filter(|(index, _)| Wire::is_of(*index, self.part))
+            .map(|(_, wire)| wire)
+            .collect();
+        let mut head = format!("$version {} stand-in $end\n", self.part);
+        for ((_, name, meaning), _) in &wires {
             head.push_str(&format!("$comment {name}: {meaning} $end\n"));
         }
         head.push_str("$timescale 1 us $end\n");
-        for (letter, name, _) in WIRES {
+        for ((letter, name, _), _) in &wires {
             head.push_str(&format!("$var wire 1 {letter} {name} $end\n"));
         }
         head.push_str("$enddefinitions $end\n#0\n$dumpvars\n");
-        for ((letter, _, _), level) in WIRES.iter().zip(self.levels) {
-            head.push_str(&format!("{}{letter}\n", u8::from(level)));
+        for ((letter, _, _), level) in &wires {
+            head.push_str(&format!("{}{letter}\n", u8::from(*level)));
         }
         head.push_str("$end\n");
         self.written = Some(0);
@@ -127,7 +162,8 @@ impl<'run> Waveform<'run> {
 
     /// Gives a wire a level at a moment of the window; nothing is written if it has it already.
     fn set(&mut self, moment: u64, wire: Wire, level: bool) -> Outcome {
-        if self.levels[wire as usize] == level {
+        let is_shown = Wire::is_of(wire as usize, self.part);
+        if !is_shown || self.levels[wire as usize] == level {
             return Ok(());
         }
         self.levels[wire as usize] = level;
@@ -173,6 +209,12 @@ impl<'run> Waveform<'run> {
         self.set(CLOCK_FALLS, Wire::Clock, false)
     }
 
+    /// An edge on a counter's pin is a pulse of its wire, and the bus rests.
+    fn edge(&mut self, wire: Wire) -> Outcome {
+        self.set(DATA, wire, true)?;
+        self.set(TURN, wire, false)
+    }
+
     /// A loss of power makes the device let go of SDA. The clock is low then, or SDA is high
     /// already, so that no decoder takes it for a Stop.
     fn power(&mut self, power: Power) -> Outcome {
@@ -216,6 +258,8 @@ impl Observer for Waveform<'_> {
             event::START => self.start()?,
             event::STOP => self.stop()?,
             event::CLOCK_LOW | event::CLOCK_HIGH => self.clock(moment)?,
+            EDGE_1 => self.edge(Wire::FirstCounter)?,
+            EDGE_2 => self.edge(Wire::SecondCounter)?,
             _ => self.power(moment.after.power)?,
         }
         self.show_pin_and_supplies(CLOCK_FALLS, moment.answer.pin(), moment.after.power)?;

@@ -1,15 +1,24 @@
 // SPDX-License-Identifier: Apache-2.0
-//! A device in words: registers, calendar, pin, addresses, power, bus.
+//! A device in words: registers, calendar and pin or counters and serial number, addresses, power,
+//! bus.
 
-use fm3130::{registers, Device, Phase, PinFunction, Power, State};
+use fm3130::{family, registers, Calendar, Phase, PinFunction, Power};
+
+use crate::chip::{Chip, Companion, Part, State};
 
 /// All that a reader may want to know of a device, a line each.
-pub fn of_device(device: &Device) -> Vec<String> {
+pub fn of_device(device: &Chip) -> Vec<String> {
     let state = device.state();
+    let (first, _) = state.part.registers();
     let mut lines = vec!["Registers".to_string()];
-    lines.extend(of_registers(0, &state.registers));
-    lines.push(format!("Calendar   {}", calendar(&state)));
-    lines.push(format!("ACS pin    {}", pin(&state)));
+    lines.extend(of_registers(state.part, first, state.registers()));
+    match &state.companion {
+        Companion::Clock { core, .. } => {
+            lines.push(format!("Calendar   {}", calendar(&state, core)));
+            lines.push(format!("ACS pin    {}", pin(&state)));
+        }
+        Companion::Counters(counters) => lines.extend(of_counters(counters)),
+    }
     lines.push(format!(
         "Addresses  memory {:04X}h, companion {:02X}h",
         state.memory_address, state.companion_address
@@ -19,35 +28,58 @@ pub fn of_device(device: &Device) -> Vec<String> {
     lines
 }
 
-/// Some registers, the first of which has a number.
-pub fn of_registers(first: usize, bytes: &[u8]) -> Vec<String> {
+/// Some registers of a part, the first of which has an address.
+pub fn of_registers(part: Part, first: u8, bytes: &[u8]) -> Vec<String> {
+    let width = match part {
+        Part::Fm3130 => 18,
+        Part::Family(_) => 22,
+    };
     bytes
         .iter()
         .zip(first..)
-        .filter_map(|(byte, index)| {
-            let address = u8::try_from(index).ok()?;
-            let name = registers::name(address)?;
-            let words = registers::words(address, *byte);
+        .filter_map(|(byte, address)| {
+            let name = part.register_name(address)?;
+            let words = part.register_words(address, *byte);
             Some(format!(
-                "  {address:02X}h  {name:<18}  {byte:02X}h  {words}"
+                "  {address:02X}h  {name:<width$}  {byte:02X}h  {words}"
             ))
         })
         .collect()
 }
 
+/// The counters, their snapshot while reads are frozen, and the serial number.
+fn of_counters(state: &family::State) -> Vec<String> {
+    let words = |counts: family::Counts| match state.is_joined() {
+        true => format!("both as one: {} ({:08X}h)", counts.pair(), counts.pair()),
+        false => counts.to_string(),
+    };
+    let mut lines = vec![format!("Counters   {}", words(state.counts()))];
+    if state.is_frozen() {
+        lines.push(format!("Reads give {}, frozen", words(state.snapshot)));
+    }
+    let serial: Vec<String> = state
+        .serial()
+        .iter()
+        .map(|byte| format!("{byte:02X}"))
+        .collect();
+    let lock = if state.is_locked() { "locked" } else { "open" };
+    lines.push(format!("Serial     {}, {lock}", serial.join(" ")));
+    lines
+}
+
 /// The core, and why it does not run if it does not.
-fn calendar(state: &State) -> String {
-    let halted = state.registers[registers::CALIBRATION] & registers::OSCEN != 0;
+fn calendar(state: &State, core: &Calendar) -> String {
+    let halted = state.register(registers::CALIBRATION as u8) & registers::OSCEN != 0;
     let remark = if state.power == Power::None {
         " (stands still: no supply)"
     } else if halted {
         " (stands still: the oscillator is halted)"
-    } else if !state.core.is_valid() {
+    } else if !core.is_valid() {
         " (stands still: not valid)"
     } else {
         ""
     };
-    format!("{}{remark}", state.core)
+    format!("{core}{remark}")
 }
 
 /// The pin, and the frequency of its square wave.
@@ -55,7 +87,7 @@ fn pin(state: &State) -> String {
     let pin = state.pin();
     match pin.function {
         PinFunction::SquareWave => {
-            let setup = state.registers[registers::SETUP];
+            let setup = state.register(registers::SETUP as u8);
             format!("{pin}, {}", registers::square_wave_frequency(setup))
         }
         _ => pin.to_string(),

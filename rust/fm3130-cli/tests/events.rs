@@ -3,7 +3,7 @@
 
 mod support;
 
-use support::{script, script_names, Folder};
+use support::{all_script_names, part_of, script, Folder};
 
 #[test]
 fn events_are_printed_in_hexadecimal() {
@@ -16,23 +16,31 @@ fn events_are_printed_in_hexadecimal() {
 }
 
 /// Lists an event file, and turns the listing into events again.
-fn there_and_back(folder: &Folder) -> Vec<u8> {
-    let listing = folder.succeed(&["events", "--list", "events"]);
+fn there_and_back(folder: &Folder, part: &str) -> Vec<u8> {
+    let listing = folder.succeed(&["events", "--list", "events", "--part", part]);
     folder.write("listing.bus", listing);
-    folder.succeed(&["events", "listing.bus", "-o", "again"]);
+    folder.succeed(&["events", "listing.bus", "-o", "again", "--part", part]);
     folder.read("again")
 }
 
 #[test]
 fn a_listing_is_a_script_of_the_same_events() {
     let folder = Folder::new("events-back");
-    for name in script_names() {
-        folder.succeed(&["events", &script(&name), "-o", "events"]);
-        assert_eq!(folder.read("events"), there_and_back(&folder), "{name}");
+    for name in all_script_names() {
+        let part = part_of(&name);
+        folder.succeed(&["events", &script(&name), "-o", "events", "--part", &part]);
+        let again = there_and_back(&folder, &part);
+        assert_eq!(folder.read("events"), again, "{name}");
     }
     for list in second::generate::random(5, 24_000) {
         folder.write("events", &list.events);
-        assert_eq!(list.events, there_and_back(&folder), "{}", list.name);
+        let again = there_and_back(&folder, "fm3130");
+        assert_eq!(list.events, again, "{}", list.name);
+        // The same with edges in it, for a part that counts them.
+        let with_edges: Vec<u8> = list.events.iter().map(|one| one * 7 % 10).collect();
+        folder.write("events", &with_edges);
+        let again = there_and_back(&folder, "fm31256");
+        assert_eq!(with_edges, again, "{} with edges", list.name);
     }
 }
 

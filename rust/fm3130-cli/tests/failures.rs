@@ -33,7 +33,7 @@ fn fails(folder: &Folder, words: &[&str], code: i32, said: &str) -> Ran {
 #[test]
 fn wrong_command_lines() {
     let folder = folder_with_files("wrong-lines");
-    let cases: [(&[&str], &str); 28] = [
+    let cases: [(&[&str], &str); 36] = [
         (&[], "no command"),
         (&["jump"], "unknown command jump"),
         (&["run"], "run needs a SCRIPT"),
@@ -65,6 +65,37 @@ fn wrong_command_lines() {
         (&["trim", "-600", "+1", "more"], "one word too many: more"),
         (&["trim", "-600", "--all"], "unknown option --all"),
         (&["help", "jump"], "no help on jump"),
+        (&["run", "good.bus", "--part"], "--part needs a value"),
+        (
+            &["run", "good.bus", "--part", "fm3127"],
+            "fm3127 is no part; there are fm3130, fm3164 and fm31256",
+        ),
+        (
+            &["run", "good.bus", "--part", "fm3164", "--capture", "x"],
+            "--capture is for the FM3130 alone: a capture holds no FM3164",
+        ),
+        (
+            &["lamps", "good.bus", "--part", "fm31256"],
+            "lamps is for the FM3130 alone, and knows no FM31256; run, events, view and fresh do",
+        ),
+        (
+            &["mend", "--part=fm3164", "--image", "image"],
+            "mend is for",
+        ),
+        (&["trim", "-600", "--part", "fm3164"], "trim is for"),
+        (&["judge", "good", "--part"], "--part needs a value"),
+        (
+            &[
+                "view",
+                "--registers",
+                "--image",
+                "image",
+                "--part",
+                "fm3164",
+                "8",
+            ],
+            "registers of the FM3164 are 09h to 18h",
+        ),
     ];
     for (words, said) in cases {
         fails(&folder, words, 2, said);
@@ -151,6 +182,11 @@ fn scripts_and_event_files_that_are_wrong() {
         3,
         "number 3",
     );
+    // An edge is a word for parts with counters; for others it is neither an edge nor a byte.
+    folder.write("edges.bus", "[ A0 ]\n c1*3");
+    let ran = run(&["edges.bus"], "edges.bus:2:2: c1 is an edge on CNT1");
+    assert!(ran.errors.contains("and the FM3130 has no counters\n"));
+    assert!(ran.errors.contains("\n write C1 or 0xC1 for the byte; "));
 }
 
 #[test]

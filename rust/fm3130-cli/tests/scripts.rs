@@ -10,13 +10,13 @@ use std::env;
 use std::fs;
 use std::path::Path;
 
-use support::{script, script_names, Folder};
+use support::{all_script_names, part_of, script, Folder};
 
 #[test]
 fn every_script_prints_what_is_expected() {
     let folder = Folder::new("scripts");
-    for name in script_names() {
-        let printed = folder.succeed(&["run", &script(&name)]);
+    for name in all_script_names() {
+        let printed = folder.succeed(&["run", &script(&name), "--part", &part_of(&name)]);
         let expected = Path::new(env!("CARGO_MANIFEST_DIR"))
             .join("tests/expected")
             .join(format!("{name}.txt"));

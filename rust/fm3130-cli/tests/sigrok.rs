@@ -8,7 +8,7 @@ mod support;
 
 use std::process::Command;
 
-use support::{script, script_names, Folder};
+use support::{all_script_names, part_of, script, Folder};
 
 /// What is compared: conditions, bytes and acknowledges.
 const ANNOTATIONS: &str = "i2c=start:repeat-start:stop:ack:nack:\
@@ -64,8 +64,9 @@ fn expected(transcript: &str) -> Vec<String> {
 #[test]
 fn sigrok_sees_the_bytes_of_every_script() {
     let folder = Folder::new("sigrok");
-    for name in script_names() {
-        let transcript = folder.succeed(&["run", &script(&name), "--vcd", "wires.vcd"]);
+    for name in all_script_names() {
+        let words = ["--vcd", "wires.vcd", "--part", &part_of(&name)];
+        let transcript = folder.succeed(&[&["run", &script(&name)], &words[..]].concat());
         let Some(decoded) = decoded(&folder) else {
             eprintln!("sigrok-cli is not installed: nothing was compared");
             return;

@@ -3,7 +3,7 @@
 
 mod support;
 
-use support::{script, script_names, Folder};
+use support::{all_script_names, part_of, script, Folder};
 
 #[test]
 fn the_memory_in_hexadecimal() {
@@ -69,8 +69,9 @@ fn assert_closed(drawing: &str, name: &str) {
 #[test]
 fn every_script_can_be_drawn() {
     let folder = Folder::new("drawing");
-    for name in script_names() {
-        folder.succeed(&["run", &script(&name), "--svg", "bus.svg", "--quiet"]);
+    for name in all_script_names() {
+        let words = ["--svg", "bus.svg", "--quiet", "--part", &part_of(&name)];
+        folder.succeed(&[&["run", &script(&name)], &words[..]].concat());
         let drawing = String::from_utf8(folder.read("bus.svg")).unwrap();
         assert_closed(&drawing, &name);
         assert!(drawing.contains(">ACK</text>"), "{name}");

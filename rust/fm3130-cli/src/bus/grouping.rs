@@ -1,14 +1,16 @@
 // SPDX-License-Identifier: Apache-2.0
 //! Puts clocks together to bytes, and parts of a run of ticks to one run.
 
-use fm3130::{event, Phase, Pin, Power, Report, State};
+use fm3130::{event, family, Phase, Pin, Power, Report};
 
+use super::edges::EdgeReport;
 use super::happening::{BusByte, BusClock, Direction, Happening, PowerChange};
 use super::meaning::{self, Meaning};
 use super::moment::{Moment, TickRun};
 use super::play::Observer;
 use super::resume::{earlier_clocks, Earlier};
 use super::ticks::TickReport;
+use crate::chip::State;
 use crate::failure::Outcome;
 
 /// What is seen beside the bus, after something happened.
@@ -40,6 +42,7 @@ pub struct Grouping<'run> {
     /// The byte under way.
     group: Earlier,
     ticks: Option<TickReport>,
+    edges: Option<EdgeReport>,
     /// The ACS pin and the lamps after the events told.
     beside: Beside,
     /// A Start came, and since then neither a Stop nor a loss of power.
@@ -57,6 +60,7 @@ impl<'run> Grouping<'run> {
             listeners,
             group: earlier_clocks(state),
             ticks: None,
+            edges: None,
             beside: Beside {
                 pin: state.pin(),
                 lamps,
@@ -79,6 +83,13 @@ impl<'run> Grouping<'run> {
                 self.beside.lamps = report.lamps;
                 self.tell(&Happening::Ticks(report))
             }
+            None => Ok(()),
+        }
+    }
+
+    fn tell_edges(&mut self) -> Outcome {
+        match self.edges.take() {
+            Some(report) => self.tell(&Happening::Edges(report)),
             None => Ok(()),
         }
     }
@@ -148,6 +159,29 @@ impl<'run> Grouping<'run> {
         Ok(())
     }
 
+    /// An edge on a counter's pin; those on one pin are told together.
+    fn edge(&mut self, moment: &Moment) -> Outcome {
+        self.tell_stray_clocks()?;
+        if self
+            .edges
+            .as_ref()
+            .is_some_and(|edges| edges.event != moment.event)
+        {
+            self.tell_edges()?;
+        }
+        let inside = self.clocks_under_way();
+        let report = self.edges.get_or_insert(EdgeReport {
+            event: moment.event,
+            count: 0,
+            before: moment.before,
+            after: moment.after,
+            inside,
+        });
+        report.count += 1;
+        report.after = moment.after;
+        Ok(())
+    }
+
     /// A loss of power ends what was under way; other power events leave it.
     fn power(&mut self, moment: &Moment) -> Outcome {
         self.tell_stray_clocks()?;
@@ -161,6 +195,7 @@ impl<'run> Grouping<'run> {
         let change = PowerChange {
             event: moment.event,
             before: moment.before.power,
+            part: moment.before.part,
             inside: self.clocks_under_way(),
         };
         self.tell(&Happening::Power(change))
@@ -176,6 +211,10 @@ impl<'run> Grouping<'run> {
 impl Observer for Grouping<'_> {
     fn moment(&mut self, moment: &Moment) -> Outcome {
         self.tell_ticks()?;
+        if let family::event::EDGE_1 | family::event::EDGE_2 = moment.event {
+            return self.edge(moment);
+        }
+        self.tell_edges()?;
         match moment.event {
             event::START => self.start(moment),
             event::STOP => self.stop(moment),
@@ -185,6 +224,7 @@ impl Observer for Grouping<'_> {
     }
 
     fn ticks(&mut self, run: &TickRun) -> Outcome {
+        self.tell_edges()?;
         self.tell_stray_clocks()?;
         let inside = self.clocks_under_way();
         match &mut self.ticks {
@@ -196,6 +236,7 @@ impl Observer for Grouping<'_> {
 
     fn finish(&mut self) -> Outcome {
         self.tell_ticks()?;
+        self.tell_edges()?;
         self.tell_group()?;
         for listener in &mut self.listeners {
             listener.finish()?;

@@ -3,7 +3,9 @@
 
 use fm3130::Power;
 
+use super::edges::EdgeReport;
 use super::ticks::TickReport;
+use crate::chip::Part;
 
 /// One clock.
 #[derive(Clone, Copy, Debug, PartialEq, Eq)]
@@ -82,6 +84,8 @@ pub struct PowerChange {
     pub event: u8,
     /// The supplies before.
     pub before: Power,
+    /// The part, which loses registers of its own.
+    pub part: Part,
     /// The clocks of a byte under way that goes on after the event.
     pub inside: Option<usize>,
 }
@@ -100,6 +104,8 @@ pub enum Happening {
     Byte(BusByte),
     /// Ticks.
     Ticks(TickReport),
+    /// Edges on a counter's pin.
+    Edges(EdgeReport),
     /// A power event.
     Power(PowerChange),
 }

@@ -1,7 +1,10 @@
 // SPDX-License-Identifier: Apache-2.0
 //! What a byte on the bus means to the device that hears it.
 
-use fm3130::{registers, Phase, Power, Side, State};
+use fm3130::family::registers;
+use fm3130::{Phase, Power, Side};
+
+use crate::chip::{Companion, Part, State};
 
 /// A meaning in words, and in a few letters for a drawing.
 #[derive(Clone, Debug, PartialEq, Eq)]
@@ -35,7 +38,7 @@ pub fn of_whole_byte(first: &State, eighth: &State, byte: u8) -> Meaning {
                 format!("address {address:04X}h"),
             )
         }
-        Phase::CompanionAddressByte => companion_address(byte),
+        Phase::CompanionAddressByte => companion_address(first.part, byte),
         Phase::Write(Side::Memory) => memory_write(first, eighth),
         Phase::Write(Side::Companion) => companion_write(first, eighth, byte),
         Phase::Read(Side::Memory) => {
@@ -45,7 +48,7 @@ pub fn of_whole_byte(first: &State, eighth: &State, byte: u8) -> Meaning {
                 format!("from {address:04X}h"),
             )
         }
-        Phase::Read(Side::Companion) => companion_read(first, byte),
+        Phase::Read(Side::Companion) => companion_read(first, eighth, byte),
     }
 }
 
@@ -89,8 +92,8 @@ fn slave_byte(byte: u8) -> Meaning {
     Meaning::new(format!("slave byte: {named}"), named)
 }
 
-fn companion_address(byte: u8) -> Meaning {
-    match registers::name(byte) {
+fn companion_address(part: Part, byte: u8) -> Meaning {
+    match part.register_name(byte) {
         Some(name) => Meaning::new(format!("register address {byte:02X}h, {name}"), name),
         None => Meaning::new(
             format!("register address {byte:02X}h: there is none"),
@@ -118,36 +121,86 @@ fn memory_write(first: &State, eighth: &State) -> Meaning {
     }
 }
 
+/// What a byte written to a register means, and what the register holds then.
+fn companion_write(first: &State, eighth: &State, byte: u8) -> Meaning {
+    match first.companion {
+        Companion::Clock { .. } if eighth.phase == Phase::Idle => no_date(first),
+        Companion::Counters(_) => counters_write(first, eighth, byte),
+        Companion::Clock { .. } => register_write(first, eighth, byte),
+    }
+}
+
 /// A refused byte has ended the transfer by its eighth clock: it would have loaded the clock with a
 /// date that does not exist.
-fn companion_write(first: &State, eighth: &State, byte: u8) -> Meaning {
+fn no_date(first: &State) -> Meaning {
     let address = first.companion_address;
-    if eighth.phase == Phase::Idle {
-        let written = first.calendar_registers();
-        return Meaning::new(
-            format!(
-                "{address:02X}h refused: {written} is no date, not loaded; the clock keeps its own"
-            ),
-            "no date: refused",
-        );
-    }
-    let held = eighth.registers[usize::from(address)];
+    let written = match first.companion {
+        Companion::Clock { written, .. } => written.to_string(),
+        Companion::Counters(_) => String::new(),
+    };
+    Meaning::new(
+        format!(
+            "{address:02X}h refused: {written} is no date, not loaded; the clock keeps its own"
+        ),
+        "no date: refused",
+    )
+}
+
+/// A byte that a register takes; what it does not take of it is said.
+fn register_write(first: &State, eighth: &State, byte: u8) -> Meaning {
+    let address = first.companion_address;
+    let held = eighth.register(address);
     let kept = if held == byte {
         String::new()
     } else {
         format!("; the register holds {held:02X}h")
     };
-    let words = registers::words(address, byte);
-    named_register(address, &format!("{words}{kept}"))
+    let words = first.part.register_words(address, byte);
+    named_register(first.part, address, &format!("{words}{kept}"))
 }
 
-fn companion_read(first: &State, byte: u8) -> Meaning {
+/// A byte for a locked serial number is acknowledged and not stored; a byte that freezes the counters
+/// takes their snapshot.
+fn counters_write(first: &State, eighth: &State, byte: u8) -> Meaning {
     let address = first.companion_address;
-    named_register(address, &registers::words(address, byte))
+    let (Companion::Counters(before), Companion::Counters(after)) =
+        (first.companion, eighth.companion)
+    else {
+        return register_write(first, eighth, byte);
+    };
+    if before.is_locked() && address >= registers::SERIAL {
+        let words = first.part.register_words(address, byte);
+        return named_register(first.part, address, &format!("{words}; locked, not stored"));
+    }
+    let mut meaning = register_write(first, eighth, byte);
+    if address == registers::COUNTING && after.is_frozen() {
+        let taken = format!("; snapshot taken, {}", after.snapshot);
+        meaning.words.push_str(&taken);
+    }
+    meaning
+}
+
+/// A byte that a register gives; a counter's may be that of the snapshot, and the last of these ends
+/// the freezing.
+fn companion_read(first: &State, eighth: &State, byte: u8) -> Meaning {
+    let address = first.companion_address;
+    let mut words = first.part.register_words(address, byte);
+    let is_frozen = |state: &State| match state.companion {
+        Companion::Counters(state) => state.is_frozen(),
+        Companion::Clock { .. } => false,
+    };
+    let is_counter = (registers::COUNTER_1_LOW..=registers::COUNTER_2_HIGH).contains(&address);
+    if is_counter && is_frozen(first) {
+        words.push_str(", frozen");
+        if !is_frozen(eighth) {
+            words.push_str("; RC is 0 again");
+        }
+    }
+    named_register(first.part, address, &words)
 }
 
 /// A register by address and name, and what it is about.
-fn named_register(address: u8, words: &str) -> Meaning {
-    let name = registers::name(address).unwrap_or_default();
+fn named_register(part: Part, address: u8, words: &str) -> Meaning {
+    let name = part.register_name(address).unwrap_or_default();
     Meaning::new(format!("{address:02X}h {name}: {words}"), name)
 }

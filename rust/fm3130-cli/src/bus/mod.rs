@@ -4,6 +4,7 @@
 //! [`play`] lets a device do the events of a source and shows every [`Moment`] to observers. One
 //! observer is [`Grouping`]: it puts clocks together to bytes, and tells listeners what happened.
 
+mod edges;
 mod grouping;
 mod happening;
 mod meaning;
@@ -13,6 +14,7 @@ mod resume;
 mod sleep;
 mod ticks;
 
+pub use edges::{word_of, EdgeReport};
 pub use grouping::{Beside, Grouping, Listener};
 pub use happening::{BusByte, BusClock, Direction, Happening, PowerChange};
 pub use meaning::named_by;

@@ -1,7 +1,9 @@
 // SPDX-License-Identifier: Apache-2.0
 //! One event and all that is known about it.
 
-use fm3130::{event, Answer, Phase, Pin, Report, Rolled, State};
+use fm3130::{event, Answer, Phase, Pin, Report, Rolled};
+
+use crate::chip::State;
 
 /// An event that is no tick: what was before, what the device answered, what is after.
 #[derive(Clone, Copy, Debug)]
@@ -76,13 +78,13 @@ mod tests {
             let mut device = Device::fresh();
             device.memory_mut().copy_from_slice(&list.device().memory);
             for event in list.events {
-                let (before, trial) = (device.state(), pulls_by_trial(&device));
+                let (before, trial) = (State::from(device.state()), pulls_by_trial(&device));
                 let answer = Answer(device.step(event).unwrap());
                 let moment = Moment {
                     event,
                     answer,
                     before,
-                    after: device.state(),
+                    after: State::from(device.state()),
                     lamps: None,
                 };
                 if event == event::CLOCK_LOW || event == event::CLOCK_HIGH {

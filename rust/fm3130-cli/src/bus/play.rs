@@ -1,10 +1,11 @@
 // SPDX-License-Identifier: Apache-2.0
 //! Lets a device do the events of a source, chunk by chunk.
 
-use fm3130::{event, Answer, Device, Lamps, Pin, Refusal, Rolled, MOST_TICKS};
+use fm3130::{event, Answer, Lamps, Pin, MOST_TICKS};
 
 use super::moment::{Moment, TickRun};
 use super::sleep;
+use crate::chip::{Chip, Refused};
 use crate::failure::{Failure, Outcome};
 use crate::files::Replacement;
 use crate::progress::Progress;
@@ -53,7 +54,7 @@ pub struct Recorded {
 }
 
 /// Does all events of a source.
-pub fn play(device: &mut Device, source: &mut dyn Source, outputs: &mut Outputs) -> Outcome {
+pub fn play(chip: &mut Chip, source: &mut dyn Source, outputs: &mut Outputs) -> Outcome {
     let mut progress = Progress::of(source.total());
     let mut chunk = Vec::with_capacity(CHUNK);
     let mut answers = vec![0; CHUNK];
@@ -64,7 +65,7 @@ pub fn play(device: &mut Device, source: &mut dyn Source, outputs: &mut Outputs)
             source.take_ticks()
         };
         if ticks > 0 {
-            sleep_through(device, ticks, outputs)?;
+            sleep_through(chip, ticks, outputs)?;
             progress.advance(ticks);
             continue;
         }
@@ -75,7 +76,7 @@ pub fn play(device: &mut Device, source: &mut dyn Source, outputs: &mut Outputs)
         // A run of ticks prints its one line after the last of them.
         let has_words = chunk.iter().any(|event| *event != event::TICK);
         progress.give_way(outputs.prints && has_words);
-        play_chunk(device, &chunk, &mut answers, outputs)?;
+        play_chunk(chip, &chunk, &mut answers, outputs)?;
         if let Some(file) = &mut outputs.answers {
             file.write(&answers[..chunk.len()])?;
         }
@@ -93,23 +94,17 @@ pub fn play(device: &mut Device, source: &mut dyn Source, outputs: &mut Outputs)
 }
 
 /// Does the events of one chunk; the answers are left in the buffer.
-fn play_chunk(
-    device: &mut Device,
-    chunk: &[u8],
-    answers: &mut [u8],
-    outputs: &mut Outputs,
-) -> Outcome {
+fn play_chunk(chip: &mut Chip, chunk: &[u8], answers: &mut [u8], outputs: &mut Outputs) -> Outcome {
     if outputs.observers.is_empty() {
-        device.run_into(chunk, answers).map_err(refused)?;
-        return Ok(());
+        return chip.run_into(chunk, answers).map_err(refused);
     }
     let mut done = 0;
     for run in chunk.chunk_by(|one, next| *one == event::TICK && *next == event::TICK) {
         let answers = &mut answers[done..done + run.len()];
         if run[0] == event::TICK {
-            play_ticks(device, run, answers, outputs)?;
+            play_ticks(chip, run, answers, outputs)?;
         } else {
-            play_event(device, run[0], answers, outputs)?;
+            play_event(chip, run[0], answers, outputs)?;
         }
         done += run.len();
     }
@@ -117,23 +112,20 @@ fn play_chunk(
 }
 
 /// Does one event that is no tick.
-fn play_event(
-    device: &mut Device,
-    event: u8,
-    answers: &mut [u8],
-    outputs: &mut Outputs,
-) -> Outcome {
-    let before = device.state();
-    match &mut outputs.lamps {
-        Some(lamps) => lamps.run_into(device, &[event], answers),
-        None => device.run_into(&[event], answers).map(|_| ()),
+fn play_event(chip: &mut Chip, event: u8, answers: &mut [u8], outputs: &mut Outputs) -> Outcome {
+    let before = chip.state();
+    match (&mut outputs.lamps, &mut *chip) {
+        (Some(lamps), Chip::Fm3130(device)) => lamps
+            .run_into(device, &[event], answers)
+            .map_err(Refused::from),
+        (_, chip) => chip.run_into(&[event], answers),
     }
     .map_err(refused)?;
     let moment = Moment {
         event,
         answer: Answer(answers[0]),
         before,
-        after: device.state(),
+        after: chip.state(),
         lamps: outputs.lamps.as_ref().map(|lamps| lamps.report()),
     };
     for observer in &mut outputs.observers {
@@ -143,27 +135,18 @@ fn play_event(
 }
 
 /// Does a run of ticks, one by one: each says which field of the calendar it changed.
-fn play_ticks(
-    device: &mut Device,
-    ticks: &[u8],
-    answers: &mut [u8],
-    outputs: &mut Outputs,
-) -> Outcome {
-    let before = device.state();
+fn play_ticks(chip: &mut Chip, ticks: &[u8], answers: &mut [u8], outputs: &mut Outputs) -> Outcome {
+    let before = chip.state();
     // The record follows on a copy: the device itself is asked which field of the calendar changed.
-    if let Some(lamps) = &mut outputs.lamps {
-        lamps.run(&mut device.clone(), ticks).map_err(refused)?;
+    if let (Some(lamps), Chip::Fm3130(device)) = (&mut outputs.lamps, &*chip) {
+        let followed = lamps.run(&mut device.clone(), ticks);
+        followed.map_err(|refusal| refused(refusal.into()))?;
     }
-    let mut rolled = Rolled::Nothing;
-    for (tick, answer) in ticks.iter().zip(answers.iter_mut()) {
-        let told = device.step_told(*tick).map_err(refused)?;
-        *answer = told.answer.0;
-        rolled = rolled.max(told.rolled);
-    }
+    let rolled = chip.run_ticks(ticks, answers).map_err(refused)?;
     let run = TickRun {
         count: ticks.len() as u64,
         before,
-        after: device.state(),
+        after: chip.state(),
         rolled,
         pin_changes: pin_changes(before.pin(), answers),
         lamps: outputs.lamps.as_ref().map(|lamps| lamps.report()),
@@ -175,10 +158,10 @@ fn play_ticks(
 }
 
 /// Does a run of ticks at once: nobody asked for their answers.
-fn sleep_through(device: &mut Device, ticks: u64, outputs: &mut Outputs) -> Outcome {
+fn sleep_through(chip: &mut Chip, ticks: u64, outputs: &mut Outputs) -> Outcome {
     let mut left = ticks;
     while left > 0 {
-        let run = sleep::through(device, left.min(MOST_TICKS)).map_err(refused)?;
+        let run = sleep::through(chip, left.min(MOST_TICKS)).map_err(refused)?;
         left -= run.count;
         for observer in &mut outputs.observers {
             observer.ticks(&run)?;
@@ -201,6 +184,6 @@ fn pin_changes(mut pin: Pin, answers: &[u8]) -> Vec<(u64, Pin)> {
 }
 
 /// The device refuses events only if a file changed after it was tested.
-fn refused(refusal: Refusal) -> Failure {
+fn refused(refusal: Refused) -> Failure {
     Failure::Refused(format!("the device refuses the events: {refusal}"))
 }

@@ -1,9 +1,10 @@
 // SPDX-License-Identifier: Apache-2.0
 //! A run that begins inside a byte: what an earlier run has done of it.
 
-use fm3130::{Phase, Side, State, MEMORY_BYTES, REGISTER_COUNT};
+use fm3130::{Phase, Side};
 
 use super::happening::BusClock;
+use crate::chip::State;
 
 /// The clocks of a byte that were done before the run, and the states that tell its meaning.
 #[derive(Default)]
@@ -53,12 +54,15 @@ fn state_before_byte(state: &State) -> State {
     before.byte = 0;
     match state.phase {
         Phase::Write(Side::Memory) | Phase::Read(Side::Memory) if state.clocks == 8 => {
-            let last = MEMORY_BYTES as u16 - 1;
+            let last = (state.part.memory_bytes() - 1) as u16;
             before.memory_address = state.memory_address.checked_sub(1).unwrap_or(last);
         }
         Phase::Write(Side::Companion) | Phase::Read(Side::Companion) if state.clocks == 8 => {
-            let last = REGISTER_COUNT as u8 - 1;
-            before.companion_address = state.companion_address.checked_sub(1).unwrap_or(last);
+            let (first, last) = state.part.registers();
+            before.companion_address = match state.companion_address {
+                address if address == first => last,
+                address => address - 1,
+            };
         }
         _ => {}
     }
@@ -118,12 +122,12 @@ mod tests {
             let mut device = Device::fresh();
             let mut followed = Followed::default();
             for event in list.events {
-                let before = device.state();
+                let before = State::from(device.state());
                 let answer = Answer(device.step(event).unwrap());
                 if event == event::CLOCK_LOW || event == event::CLOCK_HIGH {
                     followed.clock(before, event, answer);
                 }
-                let state = device.state();
+                let state = State::from(device.state());
                 if state.phase != Phase::Idle && state.clocks > 0 {
                     followed.compare(&state);
                     compared += 1;

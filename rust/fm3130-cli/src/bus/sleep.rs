@@ -4,9 +4,27 @@
 use fm3130::{Calendar, Device, Pin, Refusal, Rolled};
 
 use super::moment::TickRun;
+use crate::chip::{Chip, Refused};
 
-/// Does up to [`fm3130::MOST_TICKS`] ticks at once, where no proving record is kept.
-pub fn through(device: &mut Device, ticks: u64) -> Result<TickRun, Refusal> {
+/// Does up to [`fm3130::MOST_TICKS`] ticks at once, where no proving record is kept. They change
+/// nothing in a part without a clock.
+pub fn through(chip: &mut Chip, ticks: u64) -> Result<TickRun, Refused> {
+    if let Chip::Fm3130(device) = chip {
+        return Ok(clock_through(device, ticks)?);
+    }
+    let state = chip.state();
+    Ok(TickRun {
+        count: ticks,
+        before: state,
+        after: state,
+        rolled: Rolled::Nothing,
+        pin_changes: Vec::new(),
+        lamps: None,
+    })
+}
+
+/// Does the ticks of a clock.
+fn clock_through(device: &mut Device, ticks: u64) -> Result<TickRun, Refusal> {
     let asleep = device.clone();
     device.catch_up(ticks)?;
     let (before, after) = (asleep.state(), device.state());
@@ -16,8 +34,8 @@ pub fn through(device: &mut Device, ticks: u64) -> Result<TickRun, Refusal> {
     };
     Ok(TickRun {
         count: ticks,
-        before,
-        after,
+        before: before.into(),
+        after: after.into(),
         rolled: highest_change(&before.core, &after.core),
         pin_changes,
         lamps: None,
@@ -104,7 +122,7 @@ mod tests {
             for alarm in alarms {
                 for ticks in [1, 2, 3, 59, 60, 61, 3_599, 3_601, 86_401] {
                     let (mut slept, mut awake) = (device(core, alarm), device(core, alarm));
-                    let run = through(&mut slept, ticks).unwrap();
+                    let run = clock_through(&mut slept, ticks).unwrap();
                     let told = one_by_one(&mut awake, ticks);
                     assert_eq!(
                         (run.rolled, run.pin_changes),

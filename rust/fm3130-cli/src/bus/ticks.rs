@@ -3,9 +3,10 @@
 
 use std::fmt;
 
-use fm3130::{registers, Pin, Power, Report, Rolled, State};
+use fm3130::{registers, Pin, Power, Report, Rolled};
 
 use super::moment::TickRun;
+use crate::chip::{Companion, State};
 
 /// What a run of ticks did.
 #[derive(Clone, Debug, PartialEq, Eq)]
@@ -55,8 +56,10 @@ impl TickReport {
 
     /// Why the calendar stood still.
     fn reason_of_standstill(&self) -> &'static str {
-        let halted = self.before.registers[registers::CALIBRATION] & registers::OSCEN != 0;
-        if self.before.power == Power::None {
+        let halted = self.before.register(registers::CALIBRATION as u8) & registers::OSCEN != 0;
+        if let Companion::Counters(_) = self.before.companion {
+            "this part has no clock"
+        } else if self.before.power == Power::None {
             "no supply"
         } else if halted {
             "the oscillator is halted"
@@ -67,8 +70,8 @@ impl TickReport {
 
     /// The flags that the ticks set.
     fn flags_set(&self) -> Vec<&'static str> {
-        let rose =
-            !self.before.registers[registers::CONTROL] & self.after.registers[registers::CONTROL];
+        let control = registers::CONTROL as u8;
+        let rose = !self.before.register(control) & self.after.register(control);
         [(registers::AF, "AF set"), (registers::CF, "CF set")]
             .into_iter()
             .filter(|(flag, _)| rose & flag != 0)
@@ -87,14 +90,11 @@ impl fmt::Display for TickReport {
         if let Some(clocks) = self.inside {
             write!(formatter, " after {clocks} clocks of a byte")?;
         }
-        if self.rolled == Rolled::Nothing {
-            return write!(formatter, ": {}", self.reason_of_standstill());
-        }
-        write!(
-            formatter,
-            ": {} -> {}, {}",
-            self.before.core, self.after.core, self.rolled
-        )?;
+        let (before, after) = match (self.before.core(), self.after.core()) {
+            (Some(before), Some(after)) if self.rolled != Rolled::Nothing => (before, after),
+            _ => return write!(formatter, ": {}", self.reason_of_standstill()),
+        };
+        write!(formatter, ": {before} -> {after}, {}", self.rolled)?;
         for words in self.flags_set() {
             write!(formatter, ", {words}")?;
         }
@@ -130,14 +130,14 @@ mod tests {
     use fm3130::{event, Device, PinFunction};
 
     fn run(device: &mut Device, count: u64, pin_changes: Vec<(u64, Pin)>) -> TickRun {
-        let before = device.state();
+        let before = State::from(device.state());
         let rolled = (0..count)
             .map(|_| device.step_told(event::TICK).unwrap().rolled)
             .max();
         TickRun {
             count,
             before,
-            after: device.state(),
+            after: State::from(device.state()),
             rolled: rolled.unwrap_or(Rolled::Nothing),
             pin_changes,
             lamps: None,

@@ -5,6 +5,7 @@ use std::ffi::OsString;
 use std::path::{Path, PathBuf};
 
 use crate::arguments::{wrong, Arguments, Options};
+use crate::chip::Part;
 use crate::failure::Outcome;
 use crate::files::{self, NamedFile, Replacement};
 use crate::listing::Listing;
@@ -14,7 +15,7 @@ use crate::script;
 use crate::source::{FileSource, PlanSource, Source};
 
 const OPTIONS: Options = Options {
-    with_value: &["-o", "--list"],
+    with_value: &["-o", "--list", "--part"],
     alone: &[],
 };
 
@@ -27,14 +28,15 @@ pub fn command(words: Vec<OsString>) -> Outcome {
     arguments.at_most(1)?;
     let script = arguments.plain.first().map(PathBuf::from);
     let target = arguments.path("-o");
+    let part = arguments.part()?;
     match (script, arguments.path("--list")) {
         (Some(_), Some(_)) => Err(wrong("events takes a SCRIPT or --list, not both")),
         (None, None) => Err(wrong("events needs a SCRIPT or --list FILE")),
         (None, Some(_)) if target.is_some() => Err(wrong("--list prints; it takes no -o")),
-        (None, Some(path)) => list(FileSource::open(&path)?),
+        (None, Some(path)) => list(FileSource::open(&path, part)?),
         (Some(path), None) => match target {
-            Some(target) => write(&path, &target),
-            None => print(PlanSource::new(script::load(&path)?)),
+            Some(target) => write(&path, &target, part),
+            None => print(PlanSource::new(script::load(&path, part)?)),
         },
     }
 }
@@ -55,7 +57,7 @@ fn for_each_chunk(source: &mut dyn Source, mut take: impl FnMut(&[u8]) -> Outcom
 }
 
 /// Writes the events of a script to a file.
-fn write(script: &Path, target: &Path) -> Outcome {
+fn write(script: &Path, target: &Path, part: Part) -> Outcome {
     files::must_differ(&[
         NamedFile {
             option: "SCRIPT",
@@ -66,7 +68,7 @@ fn write(script: &Path, target: &Path) -> Outcome {
             path: target,
         },
     ])?;
-    let mut source = PlanSource::new(script::load(script)?);
+    let mut source = PlanSource::new(script::load(script, part)?);
     let mut file = Replacement::open(target)?;
     for_each_chunk(&mut source, |chunk| file.write(chunk))?;
     files::commit_all(vec![file])

@@ -4,14 +4,13 @@
 use std::ffi::OsString;
 use std::path::{Path, PathBuf};
 
-use fm3130::Device;
-
 use crate::arguments::{wrong, Arguments, Options};
+use crate::chip::Chip;
 use crate::failure::{Failure, Outcome};
 use crate::files::{self, NamedFile, Replacement};
 
 const OPTIONS: Options = Options {
-    with_value: &["--image", "--memory"],
+    with_value: &["--image", "--memory", "--part"],
     alone: &["--force"],
 };
 
@@ -19,14 +18,12 @@ const OPTIONS: Options = Options {
 pub fn command(words: Vec<OsString>) -> Outcome {
     let arguments = Arguments::sort(words, &OPTIONS)?;
     arguments.at_most(0)?;
-    let device = Device::fresh();
-    let wanted: Vec<(&str, PathBuf, &[u8])> = [
-        ("--image", device.image().as_slice()),
-        ("--memory", device.memory().as_slice()),
-    ]
-    .into_iter()
-    .filter_map(|(option, bytes)| Some((option, arguments.path(option)?, bytes)))
-    .collect();
+    let device = Chip::fresh(arguments.part()?);
+    let wanted: Vec<(&str, PathBuf, &[u8])> =
+        [("--image", device.image()), ("--memory", device.memory())]
+            .into_iter()
+            .filter_map(|(option, bytes)| Some((option, arguments.path(option)?, bytes)))
+            .collect();
     if wanted.is_empty() {
         return Err(wrong("fresh needs --image FILE, --memory FILE or both"));
     }

@@ -10,6 +10,7 @@ use fm3130::{Answer, Device};
 
 use crate::arguments::{wrong, Arguments, Options};
 use crate::bus::{self, Grouping, Listener, Outputs};
+use crate::chip::{Chip, Part, State};
 use crate::drawing::Drawing;
 use crate::failure::{Failure, Outcome};
 use crate::files::{self, NamedFile, Replacement};
@@ -143,10 +144,10 @@ fn starting_device(arguments: &Arguments) -> Outcome<Device> {
     let mut image = fresh.image().to_vec();
     let mut memory = fresh.memory().to_vec();
     if let Some(path) = arguments.path("--image") {
-        image = there(files::load_image(&path)?, &path)?;
+        image = there(files::load_image(&path, Part::Fm3130)?, &path)?;
     }
     if let Some(path) = arguments.path("--memory") {
-        memory = there(files::load_memory(&path)?, &path)?;
+        memory = there(files::load_memory(&path, Part::Fm3130)?, &path)?;
     }
     Device::from_parts(&image, &memory).map_err(|refusal| Failure::Refused(refusal.to_string()))
 }
@@ -219,7 +220,8 @@ fn tell_difference(
         "Event {index}: {}. By the rules; the recording differs at the arrow.",
         shown.place
     );
-    let mut drawing = Drawing::new(&mut drawn, &title, &shown.device.state(), None);
+    let begin = State::from(shown.device.state());
+    let mut drawing = Drawing::new(&mut drawn, &title, &begin, None);
     if let Some(clock) = shown.clock {
         drawing.point_at(clock, "differs", shown.pin_before);
     }
@@ -295,7 +297,7 @@ impl Shown {
 
     /// Lets the device do the events before a listener.
     fn play(&self, listener: &mut dyn Listener) -> Outcome {
-        let mut device = self.device.clone();
+        let mut device = Chip::from(self.device.clone());
         let mut grouping = Grouping::new(vec![listener], &device.state(), None);
         let mut outputs = Outputs {
             observers: vec![&mut grouping],

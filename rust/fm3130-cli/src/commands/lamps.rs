@@ -4,11 +4,12 @@
 use std::ffi::OsString;
 use std::path::{Path, PathBuf};
 
-use fm3130::{Device, Lamps};
+use fm3130::Lamps;
 
 use super::run::title_of;
 use crate::arguments::{wrong, Arguments, Options};
 use crate::bus::{self, Grouping, Listener, Outputs};
+use crate::chip::{Chip, Part};
 use crate::drawing::Drawing;
 use crate::failure::Outcome;
 use crate::files::{self, NamedFile, Replacement};
@@ -31,7 +32,7 @@ pub fn command(words: Vec<OsString>) -> Outcome {
     };
     let svg = arguments.path("--svg");
     test_files(&path, svg.as_deref())?;
-    let source = PlanSource::new(script::load(&path)?);
+    let source = PlanSource::new(script::load(&path, Part::Fm3130)?);
     let mut drawing = svg.map(|path| Replacement::open(&path)).transpose()?;
     play(source, drawing.as_mut(), &title_of(&path))?;
     files::commit_all(drawing.into_iter().collect())
@@ -50,7 +51,7 @@ fn test_files(script: &Path, svg: Option<&Path>) -> Outcome {
 
 /// Plays a source to the terminal, and to a drawing if there is one.
 fn play(mut source: PlanSource, file: Option<&mut Replacement>, title: &str) -> Outcome {
-    let (mut device, mut lamps) = (Device::fresh(), Lamps::begun());
+    let (mut device, mut lamps) = (Chip::fresh(Part::Fm3130), Lamps::begun());
     let (state, dark) = (device.state(), lamps.report());
     let mut output = Output::new();
     let mut panel = Panel::begin(&mut output, dark)?;

@@ -7,6 +7,7 @@ use std::path::Path;
 use fm3130::{Device, MEMORY_BYTES};
 
 use crate::arguments::{wrong, Arguments, Options};
+use crate::chip::Part;
 use crate::failure::{Failure, Outcome};
 use crate::files::{self, Replacement};
 use crate::mending::Mended;
@@ -47,7 +48,7 @@ pub fn command(words: Vec<OsString>) -> Outcome {
 
 /// The device whose image a file holds. Its memory is not asked for, and any will do.
 fn read_device(path: &Path) -> Outcome<Device> {
-    let loaded = files::load_image(path)?;
+    let loaded = files::load_image(path, Part::Fm3130)?;
     if loaded.is_fresh {
         return Err(Failure::Files(format!(
             "{}: there is no such file",

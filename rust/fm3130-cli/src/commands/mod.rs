@@ -14,8 +14,12 @@ mod view;
 
 use std::ffi::OsString;
 
-use crate::arguments::wrong;
+use crate::arguments::{part_of, wrong};
+use crate::chip::Part;
 use crate::failure::Outcome;
+
+/// The commands that know the FM3130 alone.
+const OF_THE_FM3130: [&str; 5] = ["share", "judge", "lamps", "mend", "trim"];
 
 /// Does the command that a command line names.
 pub fn dispatch(mut words: Vec<OsString>) -> Outcome {
@@ -27,6 +31,9 @@ pub fn dispatch(mut words: Vec<OsString>) -> Outcome {
     let asks_for_help = |word: &OsString| word == "--help" || word == "-h";
     if words.iter().any(asks_for_help) {
         return help::command(vec![command]);
+    }
+    if let Some(name) = OF_THE_FM3130.iter().find(|name| command == **name) {
+        leave_part_out(name, &mut words)?;
     }
     match command.to_str() {
         Some("run") => run::command(words),
@@ -43,6 +50,29 @@ pub fn dispatch(mut words: Vec<OsString>) -> Outcome {
         _ => Err(wrong(format!(
             "unknown command {}",
             command.to_string_lossy()
+        ))),
+    }
+}
+
+/// Takes `--part fm3130` out of the words of a command that knows that part alone, and refuses others.
+fn leave_part_out(command: &str, words: &mut Vec<OsString>) -> Outcome {
+    let is_option = |word: &OsString| {
+        let word = word.to_string_lossy();
+        word == "--part" || word.starts_with("--part=")
+    };
+    let Some(place) = words.iter().position(is_option) else {
+        return Ok(());
+    };
+    let option = words.remove(place);
+    let chosen = match option.to_string_lossy().split_once('=') {
+        Some((_, word)) => OsString::from(word),
+        None if place < words.len() => words.remove(place),
+        None => return Err(wrong("--part needs a value")),
+    };
+    match part_of(&chosen)? {
+        Part::Fm3130 => Ok(()),
+        part => Err(wrong(format!(
+            "{command} is for the FM3130 alone, and knows no {part}; run, events, view and fresh do"
         ))),
     }
 }

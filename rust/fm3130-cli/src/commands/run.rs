@@ -5,10 +5,11 @@ use std::ffi::OsString;
 use std::path::{Path, PathBuf};
 
 use fm3130::capture::{self, Capture};
-use fm3130::{Device, Phase};
+use fm3130::Phase;
 
 use crate::arguments::{wrong, Arguments, Options};
 use crate::bus::{self, Grouping, Listener, Observer, Outputs, Recorded};
+use crate::chip::{Chip, Part};
 use crate::drawing::Drawing;
 use crate::failure::{Failure, Outcome};
 use crate::files::{self, Loaded, NamedFile, Replacement};
@@ -28,6 +29,7 @@ const OPTIONS: Options = Options {
         "--svg",
         "--capture",
         "--events",
+        "--part",
     ],
     alone: &["--quiet"],
 };
@@ -48,11 +50,13 @@ pub fn command(words: Vec<OsString>) -> Outcome {
     let arguments = Arguments::sort(words, &OPTIONS)?;
     arguments.at_most(1)?;
     let script = arguments.plain.first().map(PathBuf::from);
+    let part = arguments.part()?;
     test_files(&arguments, script.as_deref())?;
-    let (mut source, title) = open_source(script, arguments.path("--events"))?;
+    test_capture(&arguments, part)?;
+    let (mut source, title) = open_source(script, arguments.path("--events"), part)?;
     let is_quiet = arguments.has("--quiet");
     let mut output = Output::new();
-    let mut device = load_device(&arguments, is_quiet, &mut output)?;
+    let mut device = load_device(&arguments, part, is_quiet, &mut output)?;
     test_length(&arguments, &*source)?;
     let begin = device.clone();
     let mut targets = Targets::open(&arguments)?;
@@ -69,6 +73,16 @@ pub fn command(words: Vec<OsString>) -> Outcome {
     }
     output.finish()?;
     targets.commit(&begin, &device)
+}
+
+/// Refuses a capture of a part that captures know nothing of.
+fn test_capture(arguments: &Arguments, part: Part) -> Outcome {
+    match arguments.path("--capture") {
+        Some(_) if part != Part::Fm3130 => Err(wrong(format!(
+            "--capture is for the FM3130 alone: a capture holds no {part}"
+        ))),
+        _ => Ok(()),
+    }
 }
 
 /// Refuses a run that is too long for a capture, before anything is done.
@@ -107,13 +121,14 @@ fn test_files(arguments: &Arguments, script: Option<&Path>) -> Outcome {
 fn open_source(
     script: Option<PathBuf>,
     events: Option<PathBuf>,
+    part: Part,
 ) -> Outcome<(Box<dyn Source>, String)> {
     match (script, events) {
         (Some(path), None) => Ok((
-            Box::new(PlanSource::new(script::load(&path)?)),
+            Box::new(PlanSource::new(script::load(&path, part)?)),
             title_of(&path),
         )),
-        (None, Some(path)) => Ok((Box::new(FileSource::open(&path)?), title_of(&path))),
+        (None, Some(path)) => Ok((Box::new(FileSource::open(&path, part)?), title_of(&path))),
         (Some(_), Some(_)) => Err(wrong("run takes a SCRIPT or --events, not both")),
         (None, None) => Err(wrong("run needs a SCRIPT")),
     }
@@ -128,17 +143,22 @@ pub(super) fn title_of(path: &Path) -> String {
 }
 
 /// The device that the files hold, or a fresh one where there are none.
-fn load_device(arguments: &Arguments, is_quiet: bool, output: &mut Output) -> Outcome<Device> {
-    let fresh = Device::fresh();
+fn load_device(
+    arguments: &Arguments,
+    part: Part,
+    is_quiet: bool,
+    output: &mut Output,
+) -> Outcome<Chip> {
+    let fresh = Chip::fresh(part);
     let mut image = fresh.image().to_vec();
     let mut memory = fresh.memory().to_vec();
     if let Some(path) = arguments.path("--image") {
-        image = told(files::load_image(&path)?, &path, is_quiet, output)?;
+        image = told(files::load_image(&path, part)?, &path, is_quiet, output)?;
     }
     if let Some(path) = arguments.path("--memory") {
-        memory = told(files::load_memory(&path)?, &path, is_quiet, output)?;
+        memory = told(files::load_memory(&path, part)?, &path, is_quiet, output)?;
     }
-    Device::from_parts(&image, &memory).map_err(|refusal| Failure::Refused(refusal.to_string()))
+    Chip::from_parts(part, &image, &memory).map_err(|refusal| Failure::Refused(refusal.to_string()))
 }
 
 /// The bytes of a part; says so if no file gave them.
@@ -150,16 +170,17 @@ fn told(loaded: Loaded, path: &Path, is_quiet: bool, output: &mut Output) -> Out
 }
 
 /// A run that begins inside a transfer says so.
-fn say_where_it_begins(device: &Device, output: &mut Output) -> Outcome {
-    match device.phase() {
+fn say_where_it_begins(device: &Chip, output: &mut Output) -> Outcome {
+    let state = device.state();
+    match state.phase {
         Phase::Idle => Ok(()),
-        _ => output.line(&format!("begins inside: {}", words::bus(&device.state()))),
+        _ => output.line(&format!("begins inside: {}", words::bus(&state))),
     }
 }
 
 /// Plays a source to all who want to see it.
 fn play_to(
-    device: &mut Device,
+    device: &mut Chip,
     source: &mut dyn Source,
     targets: &mut Targets,
     output: Option<&mut Output>,
@@ -225,7 +246,7 @@ impl Targets {
 
     /// Writes the device and the capture of a run that began with another, and puts every file in
     /// its place.
-    fn commit(mut self, begin: &Device, device: &Device) -> Outcome {
+    fn commit(mut self, begin: &Chip, device: &Chip) -> Outcome {
         if let Some(file) = &mut self.image {
             file.write(device.image())?;
         }

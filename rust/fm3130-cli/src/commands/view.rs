@@ -4,16 +4,17 @@
 use std::ffi::{OsStr, OsString};
 use std::path::PathBuf;
 
-use fm3130::{selector, Device, Refusal, IMAGE_BYTES, MEMORY_BYTES, REGISTER_COUNT};
+use fm3130::{selector, IMAGE_BYTES};
 
 use crate::arguments::{wrong, Arguments, Options};
+use crate::chip::{Chip, Part, Refused};
 use crate::failure::{Failure, Outcome};
 use crate::files::{self, NamedFile};
 use crate::output::Output;
 use crate::words;
 
 const OPTIONS: Options = Options {
-    with_value: &["--memory", "--image"],
+    with_value: &["--memory", "--image", "--part"],
     alone: &["--registers"],
 };
 
@@ -26,14 +27,16 @@ pub fn command(words: Vec<OsString>) -> Outcome {
     arguments.at_most(2)?;
     let shows_registers = arguments.has("--registers");
     let parts = Parts::read(&arguments, shows_registers)?;
-    let (start, length) = extent(&arguments.plain, shows_registers)?;
+    let (start, length) = extent(&arguments.plain, parts.part, shows_registers)?;
     let selector = if shows_registers {
         selector::REGISTERS
     } else {
         selector::MEMORY
     };
     // The viewer looks at the lengths first: a short file is told by 01's number.
-    let part = fm3130::view(&parts.image, &parts.memory, selector, start, length)
+    let part = parts.part;
+    let part = part
+        .view(&parts.image, &parts.memory, selector, start, length)
         .map_err(|refusal| parts.refused(refusal))?;
     let lines = if shows_registers {
         register_lines(&parts, start, part)
@@ -49,6 +52,7 @@ pub fn command(words: Vec<OsString>) -> Outcome {
 
 /// The bytes of the files, or fresh ones where no file is named.
 struct Parts {
+    part: Part,
     image: Vec<u8>,
     image_path: Option<PathBuf>,
     memory: Vec<u8>,
@@ -73,20 +77,22 @@ impl Parts {
             ])?,
             _ => {}
         }
-        let fresh = Device::fresh();
+        let part = arguments.part()?;
+        let fresh = Chip::fresh(part);
         Ok(Parts {
+            part,
             image: read_or(&image_path, IMAGE_BYTES, fresh.image())?,
-            memory: read_or(&memory_path, MEMORY_BYTES, fresh.memory())?,
+            memory: read_or(&memory_path, part.memory_bytes(), fresh.memory())?,
             image_path,
             memory_path,
         })
     }
 
     /// The refusal, with the file that it is about.
-    fn refused(&self, refusal: Refusal) -> Failure {
-        let path = match refusal {
-            Refusal::MemoryLength => &self.memory_path,
-            Refusal::Image => &self.image_path,
+    fn refused(&self, refusal: Refused) -> Failure {
+        let path = match refusal.number() {
+            1 => &self.memory_path,
+            2 => &self.image_path,
             _ => return wrong(refusal.to_string()),
         };
         match path {
@@ -104,15 +110,20 @@ fn read_or(path: &Option<PathBuf>, length: usize, otherwise: &[u8]) -> Outcome<V
     }
 }
 
-/// Start and length; without a length, up to the end.
-fn extent(plain: &[OsString], shows_registers: bool) -> Outcome<(u64, u64)> {
-    let end = if shows_registers {
-        REGISTER_COUNT as u64
-    } else {
-        MEMORY_BYTES as u64
+/// Start and length; without a length, up to the end. A register is named by its address, and the
+/// viewer counts from the first one of the part.
+fn extent(plain: &[OsString], part: Part, shows_registers: bool) -> Outcome<(u64, u64)> {
+    let (first, last) = part.registers();
+    let (first, end) = match shows_registers {
+        true => (u64::from(first), part.register_count() as u64),
+        false => (0, part.memory_bytes() as u64),
     };
     let start = match plain.first() {
-        Some(word) => number(word)?,
+        Some(word) => number(word)?.checked_sub(first).ok_or_else(|| {
+            wrong(format!(
+                "registers of the {part} are {first:02X}h to {last:02X}h"
+            ))
+        })?,
         None => 0,
     };
     let length = match plain.get(1) {
@@ -140,13 +151,15 @@ fn number(word: &OsStr) -> Outcome<u64> {
 
 /// The registers in words; all of a device if all of them are shown and the image is good.
 fn register_lines(parts: &Parts, start: u64, part: &[u8]) -> Vec<String> {
-    if part.len() < REGISTER_COUNT {
-        return words::of_registers(start as usize, part);
+    let (first, _) = parts.part.registers();
+    if part.len() < parts.part.register_count() {
+        // The viewer has found the part within the registers, so the sum is an address.
+        return words::of_registers(parts.part, first + start as u8, part);
     }
-    match Device::from_parts(&parts.image, &parts.memory) {
+    match Chip::from_parts(parts.part, &parts.image, &parts.memory) {
         Ok(device) => words::of_device(&device),
         Err(refusal) => {
-            let mut lines = words::of_registers(0, part);
+            let mut lines = words::of_registers(parts.part, first, part);
             lines.push(format!("The rest cannot be told: {refusal}"));
             lines
         }

@@ -9,9 +9,10 @@ pub mod page;
 mod row;
 mod wires;
 
-use fm3130::{event, Pin, Report};
+use fm3130::{event, Calendar, Pin, Report};
 
-use crate::bus::{Beside, BusByte, Happening, Listener, PowerChange, TickReport};
+use crate::bus::{Beside, BusByte, EdgeReport, Happening, Listener, PowerChange, TickReport};
+use crate::chip::State;
 use crate::failure::Outcome;
 use crate::files::Replacement;
 use row::{Aside, Mark, Row};
@@ -42,7 +43,7 @@ impl<'run> Drawing<'run> {
     pub fn new(
         file: &'run mut Replacement,
         title: &str,
-        state: &fm3130::State,
+        state: &State,
         lamps: Option<Report>,
     ) -> Drawing<'run> {
         Drawing {
@@ -143,14 +144,25 @@ fn box_of_ticks(report: &TickReport) -> Aside {
         1 => "tick".to_string(),
         count => format!("t*{count}"),
     };
-    let core = report.after.core;
-    Aside {
-        name,
-        words: format!(
+    let time = |core: Calendar| {
+        format!(
             "{:02X}:{:02X}:{:02X}",
             core.hours, core.minutes, core.seconds
-        ),
+        )
+    };
+    Aside {
+        name,
+        words: report.after.core().map_or("no clock".to_string(), time),
         color: page::TICK,
+    }
+}
+
+/// The box of edges on a counter's pin: how many, and the count after them.
+fn box_of_edges(report: &EdgeReport) -> Aside {
+    Aside {
+        name: report.notation(),
+        words: report.label(),
+        color: page::COUNT,
     }
 }
 
@@ -185,6 +197,10 @@ impl Listener for Drawing<'_> {
             }
             Happening::Ticks(report) => {
                 self.aside(&box_of_ticks(report), report.inside, after);
+                report.inside
+            }
+            Happening::Edges(report) => {
+                self.aside(&box_of_edges(report), report.inside, after);
                 report.inside
             }
             Happening::Power(change) => {

@@ -12,6 +12,8 @@ const HEAD: f64 = 62.0;
 
 /// The colour of ticks.
 pub const TICK: &str = "#fbf0c4";
+/// The colour of edges that are counted.
+pub const COUNT: &str = "#e7defa";
 /// The colour of power events.
 pub const POWER: &str = "#f9d2d2";
 /// The colour of a byte that the master sends.

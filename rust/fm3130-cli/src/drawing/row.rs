@@ -100,14 +100,20 @@ impl Row {
     /// An empty row, on which the wires go on from the row before.
     pub fn new(wires: Wires) -> Row {
         let mut shapes = String::new();
-        for (name, y) in [("SCL", CLOCK_LOW), ("SDA", DATA_LOW), ("ACS", PIN_LOW)] {
+        let drawn = if wires.has_pin { 3 } else { 2 };
+        for (name, y) in [("SCL", CLOCK_LOW), ("SDA", DATA_LOW), ("ACS", PIN_LOW)]
+            .into_iter()
+            .take(drawn)
+        {
             shapes.push_str(&text(20.0, y - 4.0, 10.0, "start", FAINT, name));
         }
         if wires.lamps.is_some() {
             let y = LAMP + NEXT_LAMP * 3.5 + 3.0;
             shapes.push_str(&text(20.0, y, 10.0, "start", FAINT, "lamps"));
         }
-        shapes.push_str(&pin_words(LEFT, wires.pin));
+        if wires.has_pin {
+            shapes.push_str(&pin_words(LEFT, wires.pin));
+        }
         Row {
             clock: format!("M{LEFT} {}", clock_height(wires.clock_is_high)),
             wires,
@@ -287,6 +293,9 @@ impl Row {
 
     /// The pin up to here.
     fn draw_pin(&mut self) {
+        if !self.wires.has_pin {
+            return;
+        }
         let pin = self.wires.pin;
         let points = format!("M{:.1} {}H{:.1}", self.pin_from, pin_height(pin), self.x);
         self.pin_path(&points, pin);

@@ -1,9 +1,10 @@
 // SPDX-License-Identifier: Apache-2.0
 //! The levels of the wires, which go on from cell to cell.
 
-use fm3130::{Phase, Pin, PinFunction, Report, State};
+use fm3130::{Phase, Pin, PinFunction, Report};
 
 use crate::bus::BusClock;
+use crate::chip::{Part, State};
 
 /// Who pulls SDA low.
 #[derive(Clone, Copy, Debug, PartialEq, Eq)]
@@ -42,6 +43,8 @@ pub struct Wires {
     pub puller: Puller,
     /// The ACS pin.
     pub pin: Pin,
+    /// Whether the part has that pin, so that it is drawn.
+    pub has_pin: bool,
     /// The lamps, where they are drawn.
     pub lamps: Option<Report>,
 }
@@ -56,6 +59,7 @@ impl Wires {
                 function: PinFunction::Released,
                 alarm: false,
             },
+            has_pin: true,
             lamps: None,
         }
     }
@@ -65,6 +69,7 @@ impl Wires {
         Wires {
             clock_is_high: state.phase == Phase::Idle,
             pin: state.pin(),
+            has_pin: state.part == Part::Fm3130,
             lamps,
             ..Wires::free()
         }

@@ -3,9 +3,10 @@
 
 use std::path::Path;
 
-use fm3130::{Device, Refusal, IMAGE_BYTES, MEMORY_BYTES};
+use fm3130::IMAGE_BYTES;
 
 use super::read_at_most;
+use crate::chip::{Chip, Part, Refused};
 use crate::failure::{Failure, Outcome};
 
 /// Bytes of a part, and whether a file gave them.
@@ -16,27 +17,23 @@ pub struct Loaded {
     pub is_fresh: bool,
 }
 
-/// The image in a file, tested; or the fresh image if there is no such file.
-pub fn load_image(path: &Path) -> Outcome<Loaded> {
-    let fresh = Device::fresh();
-    let loaded = load(path, IMAGE_BYTES, fresh.image(), Refusal::Image)?;
-    Device::from_parts(&loaded.bytes, fresh.memory())
+/// The image of a part in a file, tested; or the fresh image if there is no such file.
+pub fn load_image(path: &Path, part: Part) -> Outcome<Loaded> {
+    let fresh = Chip::fresh(part);
+    let loaded = load(path, IMAGE_BYTES, fresh.image(), part.wrong_image())?;
+    Chip::from_parts(part, &loaded.bytes, fresh.memory())
         .map_err(|refusal| Failure::of_refusal(path, refusal))?;
     Ok(loaded)
 }
 
-/// The memory in a file, tested; or an empty memory if there is no such file.
-pub fn load_memory(path: &Path) -> Outcome<Loaded> {
-    load(
-        path,
-        MEMORY_BYTES,
-        &[0; MEMORY_BYTES],
-        Refusal::MemoryLength,
-    )
+/// The memory of a part in a file, tested; or an empty memory if there is no such file.
+pub fn load_memory(path: &Path, part: Part) -> Outcome<Loaded> {
+    let length = part.memory_bytes();
+    load(path, length, &vec![0; length], part.wrong_memory())
 }
 
 /// The bytes of a file that must have a length; or others if there is no such file.
-fn load(path: &Path, length: usize, otherwise: &[u8], refusal: Refusal) -> Outcome<Loaded> {
+fn load(path: &Path, length: usize, otherwise: &[u8], refusal: Refused) -> Outcome<Loaded> {
     if !exists(path)? {
         return Ok(Loaded {
             bytes: otherwise.to_vec(),
@@ -66,7 +63,7 @@ fn exists(path: &Path) -> Outcome<bool> {
 }
 
 /// Says how long the file is and how long it should be.
-fn wrong_length(path: &Path, found: usize, wanted: usize, refusal: Refusal) -> Failure {
+fn wrong_length(path: &Path, found: usize, wanted: usize, refusal: Refused) -> Failure {
     let found = if found > wanted {
         format!("more than {wanted}")
     } else {

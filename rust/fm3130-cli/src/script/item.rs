@@ -35,6 +35,10 @@ pub enum Action {
     PowerGone,
     /// `power`
     PowerReturned,
+    /// `c1`: an edge on CNT1.
+    FirstEdge,
+    /// `c2`: an edge on CNT2.
+    SecondEdge,
 }
 
 impl Action {
@@ -42,7 +46,12 @@ impl Action {
     pub fn is_on_the_bus(&self) -> bool {
         !matches!(
             self,
-            Action::Tick | Action::PowerLost | Action::PowerGone | Action::PowerReturned
+            Action::Tick
+                | Action::PowerLost
+                | Action::PowerGone
+                | Action::PowerReturned
+                | Action::FirstEdge
+                | Action::SecondEdge
         )
     }
 }

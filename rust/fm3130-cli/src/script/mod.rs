@@ -19,12 +19,13 @@ use std::fs;
 use std::io::{self, Read};
 use std::path::Path;
 
+use crate::chip::Part;
 use crate::failure::{Failure, Outcome};
 
-/// A script's plan; `-` reads standard input.
-pub fn load(path: &Path) -> Outcome<Plan> {
+/// A script's plan for a part; `-` reads standard input.
+pub fn load(path: &Path, part: Part) -> Outcome<Plan> {
     let (name, text) = read(path)?;
-    plan_of(&name, &text)
+    plan_of(&name, &text, part)
 }
 
 /// The turns of a script of two masters; `-` reads standard input.
@@ -55,8 +56,8 @@ fn read_standard_input() -> io::Result<Vec<u8>> {
 }
 
 /// The plan of a text.
-fn plan_of(name: &str, text: &str) -> Outcome<Plan> {
-    let items =
-        parse::parse(text).map_err(|problem| Failure::Script(problem.shown_in(name, text)))?;
+fn plan_of(name: &str, text: &str, part: Part) -> Outcome<Plan> {
+    let items = parse::parse(text, part)
+        .map_err(|problem| Failure::Script(problem.shown_in(name, text)))?;
     Ok(Plan::of(&items))
 }

@@ -5,6 +5,7 @@ use fm3130::masters::Master;
 
 use super::item::{Action, Item, Ninth, Turn};
 use super::problem::{Place, Problem};
+use crate::chip::Part;
 
 /// The greatest repeat: a century has 3,155,760,000 seconds.
 const MOST_TIMES: u64 = 4_294_967_295;
@@ -13,11 +14,15 @@ const MOST_TIMES: u64 = 4_294_967_295;
 const KNOWN_WORDS: &str =
     "known: [ ] r r+ R r- t lost gone power, bytes as A0 or 0xA0, clocks as {0110}";
 
-/// The items of a text, or the first problem in it.
-pub fn parse(text: &str) -> Result<Vec<Item>, Problem> {
+/// The same for a part with counters.
+const KNOWN_WITH_EDGES: &str =
+    "known: [ ] r r+ R r- t c1 c2 lost gone power, bytes as A0 or 0xA0, clocks as {0110}";
+
+/// The items of a text for a part, or the first problem in it.
+pub fn parse(text: &str, part: Part) -> Result<Vec<Item>, Problem> {
     let mut items = Vec::new();
     for (index, content) in text.lines().enumerate() {
-        let mut line = Line::new(index + 1, content);
+        let mut line = Line::new(index + 1, content, part);
         while line.skip_to_item() {
             items.push(line.item()?);
         }
@@ -25,11 +30,11 @@ pub fn parse(text: &str) -> Result<Vec<Item>, Problem> {
     Ok(items)
 }
 
-/// The turns of a text, or the first problem in it.
+/// The turns of a text, or the first problem in it. Two masters share an FM3130.
 pub fn parse_turns(text: &str) -> Result<Vec<Turn>, Problem> {
     let mut turns: Vec<Turn> = Vec::new();
     for (index, content) in text.lines().enumerate() {
-        let mut line = Line::new(index + 1, content);
+        let mut line = Line::new(index + 1, content, Part::Fm3130);
         while line.skip_to_item() {
             if let Some(master) = line.master() {
                 turns.push(Turn {
@@ -64,14 +69,17 @@ struct Line {
     number: usize,
     signs: Vec<char>,
     next: usize,
+    /// The part that the script is for.
+    part: Part,
 }
 
 impl Line {
-    fn new(number: usize, content: &str) -> Line {
+    fn new(number: usize, content: &str, part: Part) -> Line {
         Line {
             number,
             signs: content.chars().collect(),
             next: 0,
+            part,
         }
     }
 
@@ -202,7 +210,7 @@ impl Line {
             self.next += 1;
         }
         let word: String = self.signs[begin..self.next].iter().collect();
-        match meaning_of(&word) {
+        match meaning_of(&word, self.part) {
             Ok(action) => Ok(action),
             Err((message, advice)) => Err(Problem::new(self.since(begin), message, advice)),
         }
@@ -238,8 +246,11 @@ impl Line {
 }
 
 /// What a word asks for; else a message and advice.
-fn meaning_of(word: &str) -> Result<Action, (String, String)> {
+fn meaning_of(word: &str, part: Part) -> Result<Action, (String, String)> {
     match word {
+        "c1" | "c2" if !part.has_counters() => Err(no_counters(word, part)),
+        "c1" => Ok(Action::FirstEdge),
+        "c2" => Ok(Action::SecondEdge),
         "r" => Ok(Action::Read(Ninth::ByWhatFollows)),
         "r+" => Ok(Action::Read(Ninth::Acknowledge)),
         "R" | "r-" => Ok(Action::Read(Ninth::Release)),
@@ -247,12 +258,21 @@ fn meaning_of(word: &str) -> Result<Action, (String, String)> {
         "lost" => Ok(Action::PowerLost),
         "gone" => Ok(Action::PowerGone),
         "power" => Ok(Action::PowerReturned),
-        _ => byte_of(word).map(Action::Write),
+        _ => byte_of(word, part).map(Action::Write),
     }
 }
 
+/// Two digits that look like a byte are an edge in every script, and never a byte by accident.
+fn no_counters(word: &str, part: Part) -> (String, String) {
+    let (pin, byte) = (word.replace('c', "CNT"), word.to_uppercase());
+    let message = format!("{word} is an edge on {pin}, and the {part} has no counters");
+    let advice =
+        format!("write {byte} or 0x{byte} for the byte; fm3130 run --part fm3164 has counters");
+    (message, advice)
+}
+
 /// The byte that a word writes; else a message and advice.
-fn byte_of(word: &str) -> Result<u8, (String, String)> {
+fn byte_of(word: &str, part: Part) -> Result<u8, (String, String)> {
     let prefixed = word.strip_prefix("0x").or_else(|| word.strip_prefix("0X"));
     let digits = prefixed.unwrap_or(word);
     let is_number = !digits.is_empty() && digits.chars().all(|sign| sign.is_ascii_hexdigit());
@@ -261,7 +281,11 @@ fn byte_of(word: &str) -> Result<u8, (String, String)> {
         return Err((message, "write 0x and two hexadecimal digits".to_string()));
     }
     if !is_number {
-        return Err((format!("unknown word {word}"), KNOWN_WORDS.to_string()));
+        let known = match part.has_counters() {
+            true => KNOWN_WITH_EDGES,
+            false => KNOWN_WORDS,
+        };
+        return Err((format!("unknown word {word}"), known.to_string()));
     }
     let fits = digits.len() == 2 || (digits.len() == 1 && prefixed.is_some());
     if !fits {
@@ -275,6 +299,12 @@ fn byte_of(word: &str) -> Result<u8, (String, String)> {
 #[cfg(test)]
 mod tests {
     use super::*;
+    use fm3130::family::Size;
+
+    /// The items of a text for the FM3130.
+    fn parse(text: &str) -> Result<Vec<Item>, Problem> {
+        super::parse(text, Part::Fm3130)
+    }
 
     fn once(action: Action) -> Item {
         Item { action, times: 1 }
@@ -345,6 +375,35 @@ mod tests {
         assert_eq!(place("a: c: ]"), (4, "c is not one byte".to_string()));
         // In a script of one master there are no turns.
         assert_eq!(problem("a: [ ]").3, "a is not one byte");
+    }
+
+    #[test]
+    fn edges_are_for_parts_with_counters() {
+        let items = super::parse("c1 c2*5 C1 0xc2", Part::Family(Size::Kb256)).unwrap();
+        let expected = [
+            once(Action::FirstEdge),
+            Item {
+                action: Action::SecondEdge,
+                times: 5,
+            },
+            once(Action::Write(0xC1)),
+            once(Action::Write(0xC2)),
+        ];
+        assert_eq!(items, expected);
+        assert_eq!(
+            problem("[ A0 c1 ]"),
+            (
+                1,
+                6,
+                2,
+                "c1 is an edge on CNT1, and the FM3130 has no counters".to_string()
+            )
+        );
+        let unknown = super::parse("c3c", Part::Family(Size::Kb64)).unwrap_err();
+        assert_eq!(unknown.message, "c3c is not one byte");
+        let unknown = super::parse("lots", Part::Family(Size::Kb64)).unwrap_err();
+        assert!(unknown.advice.contains(" c1 c2 "));
+        assert_eq!(parse("C1 0xc1 c0 c3").unwrap().len(), 4);
     }
 
     #[test]

@@ -1,7 +1,7 @@
 // SPDX-License-Identifier: Apache-2.0
 //! From items to events.
 
-use fm3130::event;
+use fm3130::{event, family};
 
 use super::item::{Action, Item, Ninth};
 
@@ -88,17 +88,23 @@ fn events_of(action: &Action) -> Vec<u8> {
         Action::PowerLost => vec![event::POWER_LOST_WITH_BACKUP],
         Action::PowerGone => vec![event::POWER_LOST_WITHOUT_BACKUP],
         Action::PowerReturned => vec![event::POWER_RETURNED],
+        Action::FirstEdge => vec![family::event::EDGE_1],
+        Action::SecondEdge => vec![family::event::EDGE_2],
     }
 }
 
 #[cfg(test)]
 mod tests {
     use super::*;
+    use crate::chip::Part;
     use crate::script::parse::parse;
+    use fm3130::family::Size;
+
+    const COUNTING: Part = Part::Family(Size::Kb64);
 
     /// All events of a text.
     fn events(text: &str) -> Vec<u8> {
-        let plan = Plan::of(&parse(text).unwrap());
+        let plan = Plan::of(&parse(text, COUNTING).unwrap());
         let events: Vec<u8> = plan
             .steps
             .iter()
@@ -120,6 +126,7 @@ mod tests {
             [0, 1, 2, 3, 4, 5, 6, 7]
         );
         assert_eq!(events("{10}:2 t*3"), [3, 2, 3, 2, 4, 4, 4]);
+        assert_eq!(events("c1*3 c2"), [8, 8, 8, 9]);
     }
 
     #[test]
@@ -132,6 +139,7 @@ mod tests {
         assert_eq!(ninths("r:3 ]"), [2, 2, 3]);
         assert_eq!(ninths("r r r ["), [2, 2, 3]);
         assert_eq!(ninths("r t lost ]"), [3]);
+        assert_eq!(ninths("r c1 r c2*2 ]"), [2, 3]);
         assert_eq!(ninths("r r"), [2, 2]);
         assert_eq!(ninths("r+ ] R r- r+"), [2, 3, 3, 2]);
         assert_eq!(ninths("r:2 R:2 ]"), [2, 2, 3, 3]);
@@ -139,7 +147,7 @@ mod tests {
 
     #[test]
     fn a_long_repeat_is_a_small_plan() {
-        let plan = Plan::of(&parse("t*4294967295 t*4294967295").unwrap());
+        let plan = Plan::of(&parse("t*4294967295 t*4294967295", Part::Fm3130).unwrap());
         assert_eq!(plan.steps.len(), 2);
         assert_eq!(plan.total(), 8_589_934_590);
     }

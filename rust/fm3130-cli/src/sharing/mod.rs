@@ -11,6 +11,7 @@ use fm3130::masters::{self, Handle, Master};
 use fm3130::{event, Device, Refusal};
 
 use crate::bus::{self, Grouping, Outputs};
+use crate::chip::Chip;
 use crate::failure::{Failure, Outcome};
 use crate::output::Output;
 use crate::script::{Plan, Turn};
@@ -68,7 +69,7 @@ pub fn play(
     }
     if let Some(output) = output {
         output.line("")?;
-        for line in words::of_device(&rig.device()) {
+        for line in words::of_device(&Chip::from(rig.device())) {
             output.line(&line)?;
         }
         output.line(&format!("Held by    {}", held_by(rig.holder())))?;
@@ -108,7 +109,7 @@ fn events_of(plan: &Plan) -> Outcome<Vec<u8>> {
 }
 
 /// A turn in words: who plays, what happened on the wires or why nothing did, and who holds the bus.
-fn say(played: &Played, mut before: Device, plan: Plan, output: &mut Output) -> Outcome {
+fn say(played: &Played, before: Device, plan: Plan, output: &mut Output) -> Outcome {
     let who = format!("{}: {}", letter(played.master), played.master);
     match played.answered {
         Err(refusal) => {
@@ -117,7 +118,8 @@ fn say(played: &Played, mut before: Device, plan: Plan, output: &mut Output) -> 
         }
         Ok(()) => output.line(&who)?,
     }
-    let state = before.state();
+    let mut chip = Chip::from(before);
+    let state = chip.state();
     let mut transcript = Transcript::new(output);
     let mut grouping = Grouping::new(vec![&mut transcript], &state, None);
     let mut outputs = Outputs {
@@ -127,7 +129,7 @@ fn say(played: &Played, mut before: Device, plan: Plan, output: &mut Output) -> 
         recording: None,
         lamps: None,
     };
-    bus::play(&mut before, &mut PlanSource::new(plan), &mut outputs)?;
+    bus::play(&mut chip, &mut PlanSource::new(plan), &mut outputs)?;
     output.line(&format!("        bus: {}", held_by(played.after)))
 }
 

@@ -106,8 +106,23 @@ pub fn scripts() -> PathBuf {
     Path::new(env!("CARGO_MANIFEST_DIR")).join("../../scripts")
 }
 
-/// The names of the example scripts, without folder and ending.
+/// The names of the example scripts for the FM3130, without folder and ending.
 pub fn script_names() -> Vec<String> {
+    let names = all_script_names();
+    let is_for_it = |name: &String| part_of(name) == "fm3130";
+    names.into_iter().filter(is_for_it).collect()
+}
+
+/// The part that a script is for: another than the FM3130 is named in a comment, as the command takes it.
+pub fn part_of(name: &str) -> String {
+    let text = fs::read_to_string(script(name)).unwrap();
+    let named = text.split("--part ").nth(1);
+    let word = named.and_then(|rest| rest.split_whitespace().next());
+    word.unwrap_or("fm3130").to_string()
+}
+
+/// The names of all example scripts.
+pub fn all_script_names() -> Vec<String> {
     let mut names: Vec<String> = fs::read_dir(scripts())
         .unwrap()
         .map(|entry| entry.unwrap().path())
