@@ -74,22 +74,23 @@ lib: archives ## the proved archives: build/native (this machine), build/officia
 archives:
 	@tools/native-archives.sh $(ARCHIVES)
 
-install: lib ## the library for C: header, archive and fm3130.pc below DESTDIR and PREFIX
+install: lib ## the library for C: headers, archive and fm3130.pc below DESTDIR and PREFIX
 	@install -d "$(DESTDIR)$(PREFIX)/include" "$(DESTDIR)$(PREFIX)/lib/pkgconfig"
-	@install -m 644 include/fm3130.h "$(DESTDIR)$(PREFIX)/include/fm3130.h"
+	@install -m 644 include/fm3130.h include/fm31.h "$(DESTDIR)$(PREFIX)/include/"
 	@install -m 644 build/lib/libfm3130.a "$(DESTDIR)$(PREFIX)/lib/libfm3130.a"
 	@$(call pkg_config,$(PREFIX)/include,$(PREFIX)/lib) >"$(DESTDIR)$(PREFIX)/lib/pkgconfig/fm3130.pc"
-	@echo "installed below $(DESTDIR)$(PREFIX): include/fm3130.h, lib/libfm3130.a, lib/pkgconfig/fm3130.pc"
+	@echo "installed below $(DESTDIR)$(PREFIX): include/fm3130.h and fm31.h, lib/libfm3130.a, lib/pkgconfig/fm3130.pc"
 
 host: lib ## the rig's host program in C: build/host/fm3130-host
 	@mkdir -p build/host
 	@$(CC) $(C99) -D_POSIX_C_SOURCE=200809L host/*.c build/native/libfm3130.a -o $(HOST)
 
-ctest: lib host ## the archives through the C header (the official one too), the host, the guide's programs
+ctest: lib host ## the archives through the C headers (the official one too), the host, the guide's programs
 	@mkdir -p build/ctest
 	@$(CC) $(C99) tests/c/*.c build/native/libfm3130.a -o build/ctest/native
 	@$(CC_X86_64) $(C99) -static tests/c/*.c build/official/libfm3130.a -o build/ctest/official
 	@$(CXX) $(STRICT) tests/c/plusplus.cc build/lib/libfm3130.a -o build/ctest/plusplus
+	@$(CC_X86_64) $(C99) -m32 -ffreestanding -fsyntax-only -x c include/fm31.h
 	@build/ctest/native $(FRAMES)
 	@tools/run-x86-64.sh build/ctest/official $(FRAMES)
 	@build/ctest/plusplus

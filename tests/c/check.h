@@ -55,6 +55,12 @@ void check_lamps(void);
 unsigned long check_handheld(void);
 
 /*
+ * fm31.h: the larger family in both sizes, held to what docs/FAMILY.md says. Returns the number of
+ * comparisons.
+ */
+unsigned long check_family(void);
+
+/*
  * Holds the trim functions to a plain search: every error in range with every setting, then what is
  * refused. Returns the number of settings judged.
  */

@@ -1,9 +1,11 @@
 // SPDX-License-Identifier: Apache-2.0
-// The header in C++: its names link, K12's exact run has its answers, 31 April is put right, and error -600 has its
-// trim setting.
+// The headers in C++: their names link, K12's exact run has its answers, 31 April is put right, error -600 has its
+// trim setting, and a part of the larger family counts an edge.
+#include "fm31.h"
 #include "fm3130.h"
 
-#include "fm3130.h" // twice is once
+#include "fm31.h" // twice is once
+#include "fm3130.h"
 
 #include <cstdio>
 #include <cstring>
@@ -36,6 +38,22 @@ int main() {
         fm3130_trim_check(-600, FM3130_TRIM_PLUS, 1) != FM3130_TRIM_ACCEPTED ||
         fm3130_trim_residue(-600, FM3130_TRIM_PLUS, 1) != -88) {
         std::fputs("ctest: DIFFERENT: the trim setting of error -600 in C++\n", stderr);
+        return 1;
+    }
+    static uint8_t larger[FM31256_MEMORY_BYTES];
+    uint8_t told[FM31_TOLD_BYTES];
+    const uint8_t *counts = larger;
+    number = fm31_fresh(image, sizeof image);
+    if (number == FM31_OK) {
+        number = fm31256_step(image, sizeof image, larger, sizeof larger, FM31_EDGE_1, told,
+                              sizeof told);
+    }
+    if (number == FM31_OK) {
+        counts = fm31256_view(image, larger, FM31_VIEW_REGISTERS, FM31_PLACE(FM31_COUNTER_1_LOW), 4,
+                              &number);
+    }
+    if (number != FM31_OK || counts != image + 4 || counts[0] != 1 || told[0] != FM31_ANSWER_LINE) {
+        std::fputs("ctest: DIFFERENT: an edge counted in C++\n", stderr);
         return 1;
     }
     return 0;
