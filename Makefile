@@ -27,6 +27,7 @@ C99 := -std=c99 $(STRICT)
 VERSION := $(shell sed -n 's/^.define FM3130_VERSION "\(.*\)"$$/\1/p' include/fm3130.h)
 HOST := build/host/fm3130-host
 SESSION := scripts/proving-session.bus
+COUNTING := scripts/counting.bus
 
 # Frames of events, and the lines that the second program wrote for them.
 FRAMES := crates/standin/stdin crates/standin/stdout
@@ -98,6 +99,10 @@ ctest: lib host ## the archives through the C headers (the official one too), th
 	@tests/c/guide.sh build/ctest/guide $(CC) $(C99)
 	@$(FM3130) events $(SESSION) -o build/ctest/session.events
 	@cmp build/ctest/session.events build/ctest/host/session
+	@$(FM3130) run $(COUNTING) --part fm3164 --quiet --answers build/ctest/counting.answers
+	@$(FM3130) events $(COUNTING) --part fm3164 -o build/ctest/counting.events
+	@cmp build/ctest/counting.events build/ctest/host/counting.events
+	@cmp build/ctest/counting.answers build/ctest/host/counting.answers
 
 second: ## the tests of the second program, which is written apart from the crates
 	@$(CARGO_TEST) --package second

@@ -8,6 +8,7 @@
 #include <stdlib.h>
 #include <string.h>
 
+#include "counting.h"
 #include "device.h"
 #include "files.h"
 #include "session.h"
@@ -17,6 +18,7 @@
 static const char usage[] =
     "usage: fm3130-host EVENTS [--image FILE] [--memory FILE] [--answers FILE] [--quiet]\n"
     "       fm3130-host --session [--save-events FILE] [the same options]\n"
+    "       fm3130-host --counting [--save-events FILE] [--answers FILE]\n"
     "\n"
     "EVENTS is a file of event bytes, or - for standard input:\n"
     "  0 Start                          4 one-second tick\n"
@@ -24,12 +26,14 @@ static const char usage[] =
     "  2 Clock, the master's line low   6 main power lost, no backup\n"
     "  3 Clock, the master's line high  7 main power returned\n"
     "--session plays a proving session instead, and tells whether it came out as it must.\n"
+    "--counting plays another part, an FM3164 of the larger family: it counts how often lamps are\n"
+    "switched, reads the counts frozen, and locks a serial number.\n"
     "\n"
     "--image, --memory   begin with the device in these files and write it back; a file that is\n"
     "                    not there begins fresh, or all 0, and is made. Without them the device\n"
     "                    is fresh and is forgotten afterwards.\n"
     "--answers           write one answer byte for each event\n"
-    "--save-events       write the session's events\n"
+    "--save-events       write the session's events, or those of the counting\n"
     "--quiet             print nothing\n"
     "\n"
     "Exit codes: 0 done, 1 a file, 2 the command line, 3 the events, 4 image or memory refused,\n"
@@ -43,6 +47,7 @@ struct options {
     const char *answers;
     const char *saved;
     int is_session;
+    int is_counting;
     int is_quiet;
 };
 
@@ -74,6 +79,8 @@ static const char **value_of(struct options *options, const char *word) {
 static void take_word(struct options *options, const char *word) {
     if (strcmp(word, "--session") == 0) {
         options->is_session = 1;
+    } else if (strcmp(word, "--counting") == 0) {
+        options->is_counting = 1;
     } else if (strcmp(word, "--quiet") == 0) {
         options->is_quiet = 1;
     } else if (strcmp(word, "--help") == 0) {
@@ -102,8 +109,27 @@ static void test_files(const struct options *options) {
     }
 }
 
+/* The options that go together. */
+static void test_options(const struct options *options) {
+    int plays = options->is_session || options->is_counting;
+    if ((options->events != NULL) + options->is_session + options->is_counting != 1) {
+        fail(EXIT_USAGE, "give a file of EVENTS, or --session, or --counting\n%s", usage);
+    }
+    if (options->saved != NULL && !plays) {
+        fail(EXIT_USAGE, "--save-events goes with --session");
+    }
+    if (options->is_quiet && plays) {
+        fail(EXIT_USAGE, "%s is there to be read: no --quiet with it",
+             options->is_session ? "--session" : "--counting");
+    }
+    if (options->is_counting && (options->image != NULL || options->memory != NULL)) {
+        fail(EXIT_USAGE, "--counting begins with a fresh FM3164: no --image or --memory with it");
+    }
+    test_files(options);
+}
+
 static struct options read_options(int count, char **words) {
-    struct options options = {NULL, NULL, NULL, NULL, NULL, 0, 0};
+    struct options options = {NULL, NULL, NULL, NULL, NULL, 0, 0, 0};
     for (int i = 1; i < count; i++) {
         const char **value = value_of(&options, words[i]);
         if (value == NULL) {
@@ -114,16 +140,7 @@ static struct options read_options(int count, char **words) {
             *value = words[i];
         }
     }
-    if ((options.events != NULL) == options.is_session) {
-        fail(EXIT_USAGE, "give a file of EVENTS, or --session\n%s", usage);
-    }
-    if (options.saved != NULL && !options.is_session) {
-        fail(EXIT_USAGE, "--save-events goes with --session");
-    }
-    if (options.is_quiet && options.is_session) {
-        fail(EXIT_USAGE, "--session is there to be read: no --quiet with it");
-    }
-    test_files(&options);
+    test_options(&options);
     return options;
 }
 
@@ -233,10 +250,40 @@ static struct job read_job(const struct options *options, struct session *sessio
     return job;
 }
 
+/* Standard output must have taken all that was told. */
+static void test_output(void) {
+    if (fflush(stdout) != 0 || ferror(stdout)) {
+        fail(EXIT_FILE, "standard output could not be written");
+    }
+}
+
+/* Plays the counting, and writes its events and answers where they are asked for. */
+static int count_switchings(const struct options *options) {
+    static struct counting counting;
+    struct output outputs[2];
+    size_t count = 0;
+    if (!counting_play(&counting, stdout)) {
+        fail(EXIT_SESSION, "the counting did not come out as it must");
+    }
+    test_output();
+    if (options->answers != NULL) {
+        outputs[count++] =
+            (struct output){options->answers, counting.answers, counting.count, NULL};
+    }
+    if (options->saved != NULL) {
+        outputs[count++] = (struct output){options->saved, counting.events, counting.count, NULL};
+    }
+    files_write(outputs, count);
+    return EXIT_DONE;
+}
+
 int main(int count, char **words) {
     static struct device device, after;
     static struct session session;
     struct options options = read_options(count, words);
+    if (options.is_counting) {
+        return count_switchings(&options);
+    }
     struct job job = read_job(&options, &session);
     load_device(&device, &options);
     after = device;
@@ -244,9 +291,7 @@ int main(int count, char **words) {
     if (!options.is_quiet && !tell(&device, &job, options.is_session ? &session : NULL, &after)) {
         fail(EXIT_SESSION, "the session did not come out as it must");
     }
-    if (fflush(stdout) != 0 || ferror(stdout)) {
-        fail(EXIT_FILE, "standard output could not be written");
-    }
+    test_output();
     save(&options, &after, &job);
     return EXIT_DONE;
 }

@@ -53,6 +53,10 @@ grep -q '^begins inside: data byte from the memory, ' told || differ "a piece th
 cat answers.piece.* >pieces
 same pieces whole
 
+# The counting, on another part: its words are stored.
+"$host" --counting --save-events counting.events --answers counting.answers >counting
+same counting "$stored/counting.txt"
+
 # What is wrong, and nothing lost by it.
 printf '\0\3\11' >unknown
 head -c 63 /dev/zero >short
@@ -65,6 +69,11 @@ cp memory.1 kept/memory
 cd kept
 device=(--image image --memory memory)
 fails 2 'give a file of EVENTS'
+fails 2 'give a file of EVENTS' --session --counting
+fails 2 'give a file of EVENTS' exact --counting
+fails 2 'no --image or --memory with it' --counting --image image
+fails 2 '--counting is there to be read' --counting --quiet
+fails 1 'no/x: ' --counting --answers no/x
 fails 2 'unknown option --speed' exact --speed
 fails 2 '--image needs a FILE' exact --image
 fails 2 'one word too many: short' exact short
