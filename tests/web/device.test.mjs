@@ -12,15 +12,21 @@ import { MODULE, Random, standIn, TOP } from './support.mjs';
 
 const hex = (bytes) => Buffer.from(bytes).toString('hex');
 
-test('the module imports nothing and exports all that the header declares', async () => {
+/** The functions that a header declares and does not define. */
+function declaredIn(name) {
+  const header = readFileSync(join(TOP, 'include', name), 'utf8').replace(/\/\*[^]*?\*\//g, '');
+  return [...header.matchAll(/^(?!static)[a-z][^;{}#]*?\b(fm31[0-9]*_[a-z_]+)\(/gm)].map(([, found]) => found);
+}
+
+test('the module imports nothing and exports all that the headers declare', async () => {
   const module = await WebAssembly.compile(MODULE);
   assert.deepEqual(WebAssembly.Module.imports(module), []);
-  const header = readFileSync(join(TOP, 'include/fm3130.h'), 'utf8').replace(/\/\*[^]*?\*\//g, '');
-  const declared = [...header.matchAll(/^(?!static)[a-z][^;{}#]*?\b(fm3130_[a-z_]+)\(/gm)].map(([, name]) => name);
+  const declared = [...declaredIn('fm3130.h'), ...declaredIn('fm31.h')];
   const exported = WebAssembly.Module.exports(module)
     .filter(({ kind }) => kind === 'function').map(({ name }) => name);
   assert.deepEqual(exported.sort(), declared.sort());
   assert.ok(declared.includes('fm3130_run') && !declared.includes('fm3130_view'));
+  assert.ok(declared.includes('fm31256_run') && !declared.includes('fm3164_view'));
 });
 
 test('the exact run of 01', () => {
