@@ -180,10 +180,13 @@ uint64_t fm31_fresh(uint8_t *image, uint64_t image_length);
  *
  * Serial number. Once SNL is 1 no event of any kind changes 11h to 18h or SNL, loss of both supplies
  * included; data bytes written there are acknowledged and not stored. Proved: SerialLocked,
- * crates/family/specs/Lock.antt.
+ * crates/family/specs/Lock.antt, of every list from every state; CallLocks,
+ * crates/larger/specs/Entry.antt, of the image that a call leaves.
  *
  * A memory data byte is not acknowledged, and ends its transfer, where its address is protected:
- * nothing is stored, and the address steps on. Address bits above the size are ignored.
+ * nothing is stored, and the address steps on. Address bits above the size are ignored. Proved of a
+ * call, crates/larger/specs/Entry.antt: an acknowledged byte is stored (CallStores), a protected address
+ * is unchanged (CallKeeps).
  *
  *   image    image_length bytes, must be 64 and an image that fm31_fresh or this function left, or
  *            any other that keeps the limits in docs/FAMILY.md; read and written
@@ -229,8 +232,8 @@ uint64_t fm3164_run(uint8_t *image, uint64_t image_length, uint8_t *memory, uint
  *   3      event is above 9
  *   4      told_length is 0
  *
- * Proved: SingleSettled, crates/rig31/specs/Single.antt. Allocates nothing, keeps nothing, thread-safe
- * on distinct buffers.
+ * Proved: SingleSettled, crates/rig31/specs/Single.antt; that it is the list run: AsTheListRun,
+ * crates/larger/specs/Entry.antt. Allocates nothing, keeps nothing, thread-safe on distinct buffers.
  */
 uint64_t fm3164_step(uint8_t *image, uint64_t image_length, uint8_t *memory, uint64_t memory_length,
                      uint64_t event, uint8_t *told, uint64_t told_length);
