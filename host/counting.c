@@ -1,7 +1,7 @@
 /* SPDX-License-Identifier: Apache-2.0 */
 /*
- * Lamp switchings counted, read frozen, and a serial number locked. Every switching is an edge on the
- * pin of a counter. scripts/counting.bus has the same events.
+ * Lamp switchings counted, read frozen, and a serial number locked. Every switching is an edge on
+ * the pin of a counter. scripts/counting.bus has the same events.
  */
 #include "counting.h"
 

@@ -8,9 +8,10 @@
  * and no alarm. Its watchdog, reset and charger bits are kept as documented but drive nothing.
  *
  * A device is two buffers of the caller: an image of 64 bytes (all its state) and a memory of 8,192
- * or 32,768 bytes. They are plain bytes: copy, store and compare them at will, also in the middle of
- * a transfer. The image's first 16 bytes are registers 09h to 18h; docs/FAMILY.md has the rest, and
- * the rules of the part. The image does not say its size: that is chosen by the function called.
+ * or 32,768 bytes. They are plain bytes: copy, store and compare them at will, also in the middle
+ * of a transfer. The image's first 16 bytes are registers 09h to 18h; docs/FAMILY.md has the rest,
+ * and the rules of the part. The image does not say its size: that is chosen by the function
+ * called.
  *
  *   fm31_fresh           makes the image of a fresh device of either size
  *   fm3164_run           does a list of events on a device of 8,192 bytes
@@ -150,8 +151,8 @@ enum fm31_selector {
 
 /*
  * Makes a fresh device, of either size: POR and LB are 1, all other registers 0, power on, no
- * transfer, the memory's address 0000h, the companion's 09h. The memory is not part of it: FRAM keeps
- * its bytes, and any bytes of the right number are a memory.
+ * transfer, the memory's address 0000h, the companion's 09h. The memory is not part of it: FRAM
+ * keeps its bytes, and any bytes of the right number are a memory.
  *
  *   image    image_length bytes, should be 64; written
  *
@@ -166,27 +167,27 @@ uint64_t fm31_fresh(uint8_t *image, uint64_t image_length);
 
 /*
  * Does a list of events, one by one, on a device of 8,192 bytes. All that can be refused is tested
- * before the first event is done. A list may be cut into pieces at any place, each piece a call: the
- * outcome is the same. An empty list is accepted.
+ * before the first event is done. A list may be cut into pieces at any place, each piece a call:
+ * the outcome is the same. An empty list is accepted.
  *
  * Counters. An edge (event 8 or 9) counts while main power or the backup is present, between the
- * clocks of a byte too, and during a write. A counter has 16 bits, its low byte first, and goes from
- * FFFFh to 0000h. While CC is 1 the two are one counter of 32 bits on CNT1, which goes from FFFFFFFFh
- * to 0, and edges on CNT2 do not count.
+ * clocks of a byte too, and during a write. A counter has 16 bits, its low byte first, and goes
+ * from FFFFh to 0000h. While CC is 1 the two are one counter of 32 bits on CNT1, which goes from
+ * FFFFFFFFh to 0, and edges on CNT2 do not count.
  *
- * Frozen reads. A byte written to 0Ch with RC = 1 copies the four counter bytes. While RC is 1, reads
- * of 0Dh to 10h send the copy, and the counters run on. RC clears itself when 10h was read to its
- * eighth clock; a write of 0Ch with RC = 0 clears it too.
+ * Frozen reads. A byte written to 0Ch with RC = 1 copies the four counter bytes. While RC is 1,
+ * reads of 0Dh to 10h send the copy, and the counters run on. RC clears itself when 10h was read to
+ * its eighth clock; a write of 0Ch with RC = 0 clears it too.
  *
- * Serial number. Once SNL is 1 no event of any kind changes 11h to 18h or SNL, loss of both supplies
- * included; data bytes written there are acknowledged and not stored. Proved: SerialLocked,
- * crates/family/specs/Lock.antt, of every list from every state; CallLocks,
+ * Serial number. Once SNL is 1 no event of any kind changes 11h to 18h or SNL, loss of both
+ * supplies included; data bytes written there are acknowledged and not stored. Proved:
+ * SerialLocked, crates/family/specs/Lock.antt, of every list from every state; CallLocks,
  * crates/larger/specs/Entry.antt, of the image that a call leaves.
  *
  * A memory data byte is not acknowledged, and ends its transfer, where its address is protected:
  * nothing is stored, and the address steps on. Address bits above the size are ignored. Proved of a
- * call, crates/larger/specs/Entry.antt: an acknowledged byte is stored (CallStores), a protected address
- * is unchanged (CallKeeps).
+ * call, crates/larger/specs/Entry.antt: an acknowledged byte is stored (CallStores), a protected
+ * address is unchanged (CallKeeps).
  *
  *   image    image_length bytes, must be 64 and an image that fm31_fresh or this function left, or
  *            any other that keeps the limits in docs/FAMILY.md; read and written
@@ -233,7 +234,8 @@ uint64_t fm3164_run(uint8_t *image, uint64_t image_length, uint8_t *memory, uint
  *   4      told_length is 0
  *
  * Proved: SingleSettled, crates/rig31/specs/Single.antt; that it is the list run: AsTheListRun,
- * crates/larger/specs/Entry.antt. Allocates nothing, keeps nothing, thread-safe on distinct buffers.
+ * crates/larger/specs/Entry.antt. Allocates nothing, keeps nothing, thread-safe on distinct
+ * buffers.
  */
 uint64_t fm3164_step(uint8_t *image, uint64_t image_length, uint8_t *memory, uint64_t memory_length,
                      uint64_t event, uint8_t *told, uint64_t told_length);
@@ -290,13 +292,13 @@ static inline const uint8_t *fm3164_view(const uint8_t *image, const uint8_t *me
 }
 
 /*
- * The same four for a device of 32,768 bytes: each is as its neighbour above, with 32,768 in place of
- * 8,192 and FM31256_MEMORY_BYTES in place of FM3164_MEMORY_BYTES. The memory goes from 7FFFh to 0000h,
- * and the highest address bit is ignored. An image of the smaller device is one of this device too;
- * the other way round it is refused by 2 if its memory address is above 1FFFh.
+ * The same four for a device of 32,768 bytes: each is as its neighbour above, with 32,768 in place
+ * of 8,192 and FM31256_MEMORY_BYTES in place of FM3164_MEMORY_BYTES. The memory goes from 7FFFh to
+ * 0000h, and the highest address bit is ignored. An image of the smaller device is one of this
+ * device too; the other way round it is refused by 2 if its memory address is above 1FFFh.
  *
- * Proved: the same definitions, which are over the size. Allocate nothing, keep nothing, thread-safe
- * on distinct buffers.
+ * Proved: the same definitions, which are over the size. Allocate nothing, keep nothing,
+ * thread-safe on distinct buffers.
  */
 
 /* Does a list of events; see fm3164_run. Proved: RunSettled, crates/rig31/specs/Run.antt. */

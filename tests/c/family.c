@@ -1,7 +1,7 @@
 /* SPDX-License-Identifier: Apache-2.0 */
 /*
- * The larger family through include/fm31.h, in both sizes: the fresh image, what registers keep, the
- * counters and their pair, frozen reads, the locked serial number, addresses and their ends,
+ * The larger family through include/fm31.h, in both sizes: the fresh image, what registers keep,
+ * the counters and their pair, frozen reads, the locked serial number, addresses and their ends,
  * protection, power, every refusal with untouched buffers and in order, the viewers, one event by
  * itself. What must come out is what docs/FAMILY.md says, written out here.
  */
@@ -452,7 +452,7 @@ static void check_power(void) {
     read_bytes(COMPANION, after, FM31_REGISTER_BYTES);
     must("power: read from 09h on", after[0], 0x60);
     must("power: read up to 11h", after[8], 0x5A);
-    /* With power off an image may hold any flags: event 7 leaves them, and sets POR after backup alone. */
+    /* An image may hold any flags while power is off: event 7 sets POR after backup alone. */
     begin();
     now.image[FM31_PLACE(FM31_FLAGS)] = 0x00;
     now.image[25] = 2;

@@ -381,6 +381,37 @@ impl From<fm3130::State> for State {
     }
 }
 
+/// What tests of several modules need.
+#[cfg(test)]
+pub mod trial {
+    use super::*;
+
+    /// All parts.
+    pub const PARTS: [Part; 3] = [
+        Part::Fm3130,
+        Part::Family(Size::Kb64),
+        Part::Family(Size::Kb256),
+    ];
+
+    /// A list of events for a part: one with counters has edges among them, at any place.
+    pub fn with_edges(part: Part, events: &[u8]) -> Vec<u8> {
+        let edges = |place: usize| match part.has_counters() && place % 5 == 0 {
+            true => Some(family::event::EDGE_1 + (place / 5 % 2) as u8),
+            false => None,
+        };
+        let numbered = events.iter().enumerate();
+        let pairs = numbered.flat_map(|(place, event)| [edges(place), Some(*event)]);
+        pairs.flatten().collect()
+    }
+
+    /// Does one event, which is known; returns its answer.
+    pub fn step(chip: &mut Chip, event: u8) -> fm3130::Answer {
+        let mut answer = [0];
+        chip.run_into(&[event], &mut answer).unwrap();
+        fm3130::Answer(answer[0])
+    }
+}
+
 #[cfg(test)]
 mod tests {
     use super::*;

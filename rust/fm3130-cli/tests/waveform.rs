@@ -5,7 +5,7 @@ mod support;
 
 use std::collections::BTreeMap;
 
-use support::{script, script_names, Folder};
+use support::{all_script_names, part_of, script, Folder};
 
 /// A waveform file taken apart: wire names by letter, and changes in order of time.
 struct Waveform {
@@ -99,10 +99,16 @@ fn expected(events: &[u8], answers: &[u8]) -> String {
     events.iter().zip(answers).filter_map(sign).collect()
 }
 
-/// Plays an event file, and compares the wires with events and answers.
+/// Plays an event file on an FM3130, and compares the wires with events and answers.
 fn compare(folder: &Folder, name: &str) -> Waveform {
+    compare_on("fm3130", folder, name)
+}
+
+/// The same on a part.
+fn compare_on(part: &str, folder: &Folder, name: &str) -> Waveform {
     let files = ["--vcd", "wires.vcd", "--answers", "answers", "--quiet"];
-    folder.succeed(&[&["run", "--events", "events"], &files[..]].concat());
+    let words = ["run", "--events", "events", "--part", part];
+    folder.succeed(&[&words[..], &files[..]].concat());
     let waveform = read(&String::from_utf8(folder.read("wires.vcd")).unwrap());
     let expected = expected(&folder.read("events"), &folder.read("answers"));
     assert_eq!(decode(&waveform), expected, "{name}");
@@ -112,9 +118,10 @@ fn compare(folder: &Folder, name: &str) -> Waveform {
 #[test]
 fn the_wires_carry_the_events_of_every_script() {
     let folder = Folder::new("waveform-scripts");
-    for name in script_names() {
-        folder.succeed(&["events", &script(&name), "-o", "events"]);
-        compare(&folder, &name);
+    for name in all_script_names() {
+        let part = part_of(&name);
+        folder.succeed(&["events", &script(&name), "-o", "events", "--part", &part]);
+        compare_on(&part, &folder, &name);
     }
 }
 
@@ -124,6 +131,18 @@ fn the_wires_carry_the_events_of_random_lists() {
     for list in second::generate::random(99, 24_000) {
         folder.write("events", &list.events);
         compare(&folder, &list.name);
+        // Edges have wires of their own and are nothing on the bus, wherever they fall.
+        let pairs = list.events.iter().enumerate();
+        let with_edges: Vec<u8> = pairs
+            .flat_map(|(place, event)| [8 + place as u8 % 2, *event])
+            .collect();
+        folder.write("events", &with_edges);
+        let waveform = compare_on("fm3164", &folder, &list.name);
+        for (event, name) in [(8, "CNT1"), (9, "CNT2")] {
+            let edges = with_edges.iter().filter(|one| **one == event).count();
+            let rises = waveform.levels(name).iter().filter(|level| **level).count();
+            assert_eq!(rises, edges, "{name} of {}", list.name);
+        }
     }
 }
 

@@ -63,36 +63,47 @@ pub struct TickRun {
 #[cfg(test)]
 mod tests {
     use super::*;
-    use fm3130::Device;
+    use crate::chip::{trial, Chip};
 
     /// What the line would be if the master released it: an honest test of who pulls.
-    fn pulls_by_trial(device: &Device) -> bool {
-        let answer = device.clone().step(event::CLOCK_HIGH).unwrap();
-        !Answer(answer).line_is_high()
+    fn pulls_by_trial(chip: &Chip) -> bool {
+        !trial::step(&mut chip.clone(), event::CLOCK_HIGH).line_is_high()
+    }
+
+    /// Compares who pulls at every Clock of a list; returns how often it is the device.
+    fn pulls_of(mut chip: Chip, events: &[u8]) -> u64 {
+        let mut pulled = 0;
+        for event in events {
+            let is_clock = *event == event::CLOCK_LOW || *event == event::CLOCK_HIGH;
+            let pulls = is_clock && pulls_by_trial(&chip);
+            let before = chip.state();
+            let moment = Moment {
+                event: *event,
+                answer: trial::step(&mut chip, *event),
+                before,
+                after: chip.state(),
+                lamps: None,
+            };
+            if is_clock {
+                assert_eq!(moment.device_pulls(), pulls);
+                pulled += u64::from(pulls);
+            }
+        }
+        pulled
     }
 
     #[test]
     fn who_pulls_agrees_with_a_trial_on_random_lists() {
-        let mut pulled = 0;
-        for list in second::generate::random(7, 100_000) {
-            let mut device = Device::fresh();
-            device.memory_mut().copy_from_slice(&list.device().memory);
-            for event in list.events {
-                let (before, trial) = (State::from(device.state()), pulls_by_trial(&device));
-                let answer = Answer(device.step(event).unwrap());
-                let moment = Moment {
-                    event,
-                    answer,
-                    before,
-                    after: State::from(device.state()),
-                    lamps: None,
-                };
-                if event == event::CLOCK_LOW || event == event::CLOCK_HIGH {
-                    assert_eq!(moment.device_pulls(), trial);
-                    pulled += u64::from(trial);
-                }
+        for part in trial::PARTS {
+            let mut pulled = 0;
+            for list in second::generate::random(7, 100_000) {
+                let mut memory = list.device().memory.to_vec();
+                memory.resize(part.memory_bytes(), 0x35);
+                let fresh = Chip::fresh(part);
+                let chip = Chip::from_parts(part, fresh.image(), &memory).unwrap();
+                pulled += pulls_of(chip, &trial::with_edges(part, &list.events));
             }
+            assert!(pulled > 1000, "{part}: {pulled}");
         }
-        assert!(pulled > 1000);
     }
 }

@@ -72,7 +72,8 @@ fn state_before_byte(state: &State) -> State {
 #[cfg(test)]
 mod tests {
     use super::*;
-    use fm3130::{event, Answer, Device};
+    use crate::chip::{trial, Chip};
+    use fm3130::{event, Answer};
 
     /// Follows the byte under way from its first clock on.
     #[derive(Default)]
@@ -115,25 +116,36 @@ mod tests {
         }
     }
 
-    #[test]
-    fn what_was_done_of_a_byte_is_told_by_the_state_alone() {
+    /// Follows a list on a fresh device; returns the number of states compared.
+    fn compare_all(mut chip: Chip, events: &[u8]) -> u64 {
         let mut compared = 0;
-        for list in second::generate::random(17, 60_000) {
-            let mut device = Device::fresh();
-            let mut followed = Followed::default();
-            for event in list.events {
-                let before = State::from(device.state());
-                let answer = Answer(device.step(event).unwrap());
-                if event == event::CLOCK_LOW || event == event::CLOCK_HIGH {
-                    followed.clock(before, event, answer);
-                }
-                let state = State::from(device.state());
-                if state.phase != Phase::Idle && state.clocks > 0 {
-                    followed.compare(&state);
-                    compared += 1;
-                }
+        let mut followed = Followed::default();
+        for event in events {
+            let before = chip.state();
+            let answer = trial::step(&mut chip, *event);
+            if *event == event::CLOCK_LOW || *event == event::CLOCK_HIGH {
+                followed.clock(before, *event, answer);
+            }
+            let state = chip.state();
+            if state.phase != Phase::Idle && state.clocks > 0 {
+                followed.compare(&state);
+                compared += 1;
             }
         }
-        assert!(compared > 10_000);
+        compared
+    }
+
+    #[test]
+    fn what_was_done_of_a_byte_is_told_by_the_state_alone() {
+        for part in trial::PARTS {
+            let lists = second::generate::random(17, 60_000).into_iter();
+            let compared: u64 = lists
+                .map(|list| {
+                    let events = trial::with_edges(part, &list.events);
+                    compare_all(Chip::fresh(part), &events)
+                })
+                .sum();
+            assert!(compared > 10_000, "{part}: {compared}");
+        }
     }
 }
