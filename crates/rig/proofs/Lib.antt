@@ -1,5 +1,7 @@
 -- SPDX-License-Identifier: Apache-2.0
 pub mod Images
+pub mod BusBytes
+pub mod Accepts
 pub mod Runs
 pub mod Views
 pub mod Ends

@@ -14,7 +14,7 @@ use crate::Ran;
 use crate::image::LENGTH;
 use crate::image::decode;
 use crate::image::image_of;
-use crate::image::write_image;
+use crate::image::write_over;
 use device::MEMORY_SIZE;
 use device::State;
 use device::numbers::ACCEPTED;
@@ -95,7 +95,7 @@ pub extern "C" fn fm3130_run(
         return refuse(SHORT_ANSWERS);
     }
     let last = run_events(state, memory, events, answers);
-    write_image(last, image);
+    write_over(last, image);
     Ran {
         number: ACCEPTED as u64,
         count: events.len() as u64,

@@ -17,20 +17,11 @@ pub fn push(byte: u8, high: bool) -> u8
 }
 
 // The bit of a byte that goes out when so many of its clocks are done.
-fn sent_bit(byte: u8, clocks: u8) -> bool
+pub fn sent_bit(byte: u8, clocks: u8) -> bool
     requires { ⌜ clocks ≤ 7 ⌝ }
     ensures { λ r. ⌜ r ≡ sentBit clocks byte ⌝ }
 {
-    match clocks {
-        0 => byte / 128 % 2 == 1,
-        1 => byte / 64 % 2 == 1,
-        2 => byte / 32 % 2 == 1,
-        3 => byte / 16 % 2 == 1,
-        4 => byte / 8 % 2 == 1,
-        5 => byte / 4 % 2 == 1,
-        6 => byte / 2 % 2 == 1,
-        _ => byte % 2 == 1,
-    }
+    (byte >> (7 - clocks)) % 2 == 1
 }
 
 // The line while the device sends that bit: low if the master or the device pulls it low.

@@ -29,7 +29,7 @@ fn protected_below(size: u16, guard: u8) -> u16
 }
 
 // Whether a data byte for an address is refused.
-fn is_protected(size: u16, guard: u8, address: u16) -> bool
+pub fn is_protected(size: u16, guard: u8, address: u16) -> bool
     ensures { λ r. ⌜ r ≡ isProtected size guard address ⌝ }
 {
     address < protected_below(size, guard)

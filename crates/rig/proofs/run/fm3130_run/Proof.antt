@@ -12,6 +12,7 @@ use Rattle.rig.specs.declared.Decoded.the-variants.{Good}
 use Rattle.rig.specs.Run.{allKnown}
 use Rattle.rig.specs.Image.{decodeOf}
 use Rattle.rig.proofs.Images.{settled-decode, image-decode, decoded-length}
+use Rattle.rig.proofs.Accepts.{decoded-end}
 use Rattle.rig.proofs.Runs.{outcome-wrong-memory, outcome-wrong-image, outcome-unknown-event}
 use Rattle.rig.proofs.Runs.{outcome-short-answers, outcome-done}
 use Rattle.rig.proofs.run.fm3130_run.Statement.{statement}
@@ -90,10 +91,11 @@ run-events-requires c κs =
     let d = c .before .before .before .before .before .before in
     ((image-decode _ _ (read d) .0, long d), (known (c .before .before .before), c .before .before .if3 .left))
 
-write-image-requires : tie.Need-write-image-requires
-write-image-requires c κs =
+write-over-requires : tie.Need-write-over-requires
+write-over-requires c κs =
     let t = c .before .before .before .before .before .before .before .before in
-    decoded-length _ _ (read (t .before .before .before .before))
+    let d = read (t .before .before .before .before) in
+    (decoded-length _ _ d, decoded-end _ _ d)
 
 cast-t21 : tie.Need-cast-t21
 cast-t21 c = search needs
@@ -113,7 +115,7 @@ returns-5 c =
     let t = r .before .before .before in
     let d = t .before .before .before .before in
     outcome-done _ _ _ _ (long d) _ (read d) _ _ _ _ (known (t .before)) (t .if3 .left) (r .run-events .ensures)
-    (c .before .before .write-image .ensures)
+    (c .before .before .write-over .ensures)
 
 pub fm3130-run-spec : {M : Type 1} → statement M
 fm3130-run-spec =
@@ -135,7 +137,7 @@ fm3130-run-spec =
     same-length-3
     returns-4
     run-events-requires
-    write-image-requires
+    write-over-requires
     cast-t21
     same-length-4
     same-length-5
