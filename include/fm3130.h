@@ -13,7 +13,9 @@
  *
  *   fm3130_fresh        makes the image of a fresh device
  *   fm3130_run          does a list of events on a device
+ *   fm3130_run_number   the same, for a caller that takes one number
  *   fm3130_step         does one event, and says which field of the calendar it changed
+ *   fm3130_line         what the device will do to the line, before a clock rises
  *   fm3130_catch_up     does up to a leap year of ticks in one call, for a host that slept
  *   fm3130_lamps        does a list of events, and says which of eight lamps may be shown lit
  *   fm3130_view_number  whether a part of the memory or of the registers can be viewed
@@ -51,7 +53,9 @@
  *              events, sizeof events, answers, sizeof answers);
  *
  * Link with libfm3130.a, which needs no other library, not even that of C. It is built for 64-bit
- * targets, x86-64 and arm64.
+ * targets, x86-64 and arm64. Where a target hands back a struct of two words in another way than the
+ * archive does, as 32-bit Arm, the functions that return one cannot be used, and using one is an
+ * error of compilation; the others can.
  *
  * For every function: Allocates nothing, keeps nothing, thread-safe on distinct buffers. It does
  * no input or output and always returns.
@@ -74,6 +78,31 @@
 #define FM3130_H
 
 #include <stdint.h>
+
+/*
+ * Targets. An archive returns a struct of two 64-bit words as x86-64 (System V), arm64 and RISC-V do.
+ * On other targets FM3130_TWO_WORDS marks the functions that return one: whoever uses one there is
+ * told so by the compiler, and not by wrong numbers at run time. Windows, x32 and 32-bit x86 are not
+ * offered.
+ */
+#if defined(_WIN32) || defined(__CYGWIN__)
+#error "fm3130.h is not offered for Windows: arguments and results go other ways there"
+#elif defined(__i386__) || (defined(__x86_64__) && defined(__ILP32__))
+#error "fm3130.h is not offered for 32-bit x86 and x32"
+#elif defined(__x86_64__) || (defined(__aarch64__) && !defined(__AARCH64EB__)) || defined(__riscv)
+#define FM3130_TWO_WORDS
+#elif defined(__GNUC__)
+#define FM3130_TWO_WORDS_SAID                                                                      \
+    "this target returns a struct of two words in another way than libfm3130.a: use "              \
+    "fm3130_run_number, fm3130_step or another function that returns one number"
+#if __has_attribute(unavailable)
+#define FM3130_TWO_WORDS __attribute__((unavailable(FM3130_TWO_WORDS_SAID)))
+#else
+#define FM3130_TWO_WORDS __attribute__((error(FM3130_TWO_WORDS_SAID)))
+#endif
+#else
+#error "fm3130.h: how this compiler returns a struct of two words is not known"
+#endif
 
 #ifdef __cplusplus
 extern "C" {
@@ -236,9 +265,31 @@ uint64_t fm3130_fresh(uint8_t *image, uint64_t image_length);
  * Proved: RunSettled, crates/rig/specs/Run.antt. Allocates nothing, keeps nothing, thread-safe on
  * distinct buffers.
  */
+FM3130_TWO_WORDS
 struct fm3130_ran fm3130_run(uint8_t *image, uint64_t image_length, uint8_t *memory,
                              uint64_t memory_length, const uint8_t *events, uint64_t events_length,
                              uint8_t *answers, uint64_t answers_length);
+
+/*
+ * Does a list of events as fm3130_run does, and returns the number alone: for callers on machines
+ * where a struct of two words comes back another way. Nothing is lost: under number 0 all events are
+ * done, under any other none.
+ *
+ *   image, memory, events, answers   as for fm3130_run
+ *
+ * Returns  image              memory          answers
+ *   0      the state after    the bytes       one byte for each event; bytes past them are
+ *          the last event     after it        unchanged
+ *   1 to 4 unchanged          unchanged       unchanged
+ *
+ *   1 to 4 as for fm3130_run
+ *
+ * Proved: NumberSettled, crates/narrow/specs/Number.antt. Allocates nothing, keeps nothing,
+ * thread-safe on distinct buffers.
+ */
+uint64_t fm3130_run_number(uint8_t *image, uint64_t image_length, uint8_t *memory,
+                           uint64_t memory_length, const uint8_t *events, uint64_t events_length,
+                           uint8_t *answers, uint64_t answers_length);
 
 /*
  * Does one event on a device, and says which field of the calendar it changed: so an event printer
@@ -265,6 +316,39 @@ struct fm3130_ran fm3130_run(uint8_t *image, uint64_t image_length, uint8_t *mem
  */
 uint64_t fm3130_step(uint8_t *image, uint64_t image_length, uint8_t *memory, uint64_t memory_length,
                      uint64_t event, uint8_t *told, uint64_t told_length);
+
+/*
+ * What fm3130_line returns: the number in the low eight bits, and whether the device pulls the line
+ * low. Under every number but 0 no line is pulled.
+ */
+#define FM3130_LINE_NUMBER 0xFFu
+#define FM3130_LINE_PULLED 0x100u            /* of the next Clock */
+#define FM3130_LINE_PULLED_AFTER_LOW 0x200u  /* of the Clock after it, if the next is low */
+#define FM3130_LINE_PULLED_AFTER_HIGH 0x400u /* of the Clock after it, if the next is high */
+
+/*
+ * Says what the device will do to the line before a clock rises, for a controller that drives real
+ * wires: the answer to a Clock comes too late for that. Nothing is changed. A tick, a Start, a Stop
+ * or an event of the supplies between this and the Clock may change it: then ask again.
+ *
+ * Where the device pulls the line, the master's level there cannot be seen, and need not be: events 2
+ * and 3 leave the same device. And a Clock that turns out to be part of a Start or a Stop does no harm
+ * unless it is the eighth of a byte: Start or Stop after it leave what they leave without it.
+ *
+ *   image    image_length bytes, must be 64 and an image as fm3130_run takes it; read
+ *   memory   memory_length bytes, must be 8,192, any values; read
+ *
+ * Returns the number, 0, 1 or 2, and under 0 the three bits above: each says whether the answer to a
+ * Clock with the master's line high would have bit 0 clear.
+ *
+ *   1      memory_length is not 8,192
+ *   2      image_length is not 64, or no well-formed state writes the image
+ *
+ * Proved: LineSettled, crates/line/specs/Line.antt; the two laws: SafeOnWires,
+ * crates/line/specs/Wires.antt. Allocates nothing, keeps nothing, thread-safe on distinct buffers.
+ */
+uint64_t fm3130_line(const uint8_t *image, uint64_t image_length, const uint8_t *memory,
+                     uint64_t memory_length);
 
 /*
  * Catches up after sleep: many ticks in one call, in about a microsecond. The image is left exactly
@@ -339,11 +423,11 @@ struct fm3130_shown {
  * the whole history: proven, crates/lamps/proofs/Proven.antt. Allocates nothing, keeps nothing,
  * thread-safe on distinct buffers.
  */
+FM3130_TWO_WORDS
 struct fm3130_shown fm3130_lamps(uint8_t *image, uint64_t image_length, uint8_t *memory,
                                  uint64_t memory_length, const uint8_t *events,
-                                 uint64_t events_length, uint8_t *answers,
-                                 uint64_t answers_length, uint8_t *record,
-                                 uint64_t record_length);
+                                 uint64_t events_length, uint8_t *answers, uint64_t answers_length,
+                                 uint8_t *record, uint64_t record_length);
 
 /*
  * Whether a part of the memory or of the registers can be viewed.
@@ -436,6 +520,7 @@ struct fm3130_mended {
  * Proved: MendSettled, crates/mend/specs/Mend.antt, and what is said above, crates/mend/specs/
  * Laws.antt. Allocates nothing, keeps nothing, thread-safe on distinct buffers.
  */
+FM3130_TWO_WORDS
 struct fm3130_mended fm3130_mend(uint8_t *image, uint64_t image_length, uint8_t *changes,
                                  uint64_t changes_length);
 
@@ -499,6 +584,7 @@ struct fm3130_filled {
  * Proved: WriteEventsSettled, crates/master/specs/Outcome.antt. Allocates nothing, keeps nothing,
  * thread-safe on distinct buffers.
  */
+FM3130_TWO_WORDS
 struct fm3130_filled fm3130_write_events(uint64_t address, const uint8_t *bytes,
                                          uint64_t bytes_length, uint8_t *events,
                                          uint64_t events_length);
@@ -524,6 +610,7 @@ struct fm3130_filled fm3130_write_events(uint64_t address, const uint8_t *bytes,
  * Proved: ReadEventsSettled, crates/master/specs/Outcome.antt. Allocates nothing, keeps nothing,
  * thread-safe on distinct buffers.
  */
+FM3130_TWO_WORDS
 struct fm3130_filled fm3130_read_events(uint64_t address, uint64_t count, uint8_t *events,
                                         uint64_t events_length);
 
@@ -546,6 +633,7 @@ struct fm3130_filled fm3130_read_events(uint64_t address, uint64_t count, uint8_
  * Proved: WriteToldSettled, crates/master/specs/Outcome.antt. Allocates nothing, keeps nothing,
  * thread-safe on distinct buffers.
  */
+FM3130_TWO_WORDS
 struct fm3130_filled fm3130_write_told(uint64_t count, const uint8_t *answers,
                                        uint64_t answers_length, uint8_t *flags,
                                        uint64_t flags_length);
@@ -571,6 +659,7 @@ struct fm3130_filled fm3130_write_told(uint64_t count, const uint8_t *answers,
  * Proved: ReadToldSettled, crates/master/specs/Outcome.antt. Allocates nothing, keeps nothing,
  * thread-safe on distinct buffers.
  */
+FM3130_TWO_WORDS
 struct fm3130_filled fm3130_read_told(uint64_t count, const uint8_t *answers,
                                       uint64_t answers_length, uint8_t *bytes,
                                       uint64_t bytes_length);
@@ -634,6 +723,7 @@ struct fm3130_judgement {
  * Proved: JudgeForCSettled, crates/capture/specs/Verdict.antt; that the answer named is the first:
  * names-the-first, crates/capture/proofs/Laws.antt. Allocates nothing, keeps nothing, thread-safe.
  */
+FM3130_TWO_WORDS
 struct fm3130_judgement fm3130_judge(const uint8_t *file, uint64_t file_length);
 
 /*
@@ -696,6 +786,7 @@ uint64_t fm3130_ask(uint8_t *bus, uint64_t bus_length, uint64_t master);
  * Proved: CallSettled, crates/handheld/specs/Outcome.antt. Allocates nothing, keeps nothing,
  * thread-safe on distinct buffers.
  */
+FM3130_TWO_WORDS
 struct fm3130_ran fm3130_call(uint8_t *bus, uint64_t bus_length, uint64_t master, uint8_t *image,
                               uint64_t image_length, uint8_t *memory, uint64_t memory_length,
                               const uint8_t *events, uint64_t events_length, uint8_t *answers,

@@ -26,6 +26,15 @@ unsigned long check_frames(const char *frames, const char *lines);
 /* fm3130_step: one event, and the field of the calendar that it changed. */
 void check_steps(void);
 
+/*
+ * fm3130_line and fm3130_run_number: at every event of a file of frames, held to fm3130_run on copies. Returns how often the
+ * line was asked.
+ */
+unsigned long check_lines(const char *frames);
+
+/* What the two refuse, and that a refusal writes nothing. */
+void check_line_refusals(void);
+
 /* fm3130_catch_up: many ticks in one call, held to the list run of as many. */
 void check_catching_up(void);
 

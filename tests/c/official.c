@@ -4,9 +4,10 @@
  * official archive for x86-64 (the real artifact) and with the one for this machine.
  *
  * K12's exact run, whole and in pieces; every refusal with untouched buffers; their order; the
- * fresh image; the viewer's number and the inline viewer; one event by itself (step.c); images put right
- * (mend.c); many ticks in one call (sleep.c); the master's side (master.c); captures with and without faults
- * (capture.c); the lamps (lamps.c); the larger family (family.c); then some 320,000 events against the second program (frames.c), and every
+ * fresh image; the viewer's number and the inline viewer; one event by itself (step.c); the next line
+ * (line.c); images put right (mend.c); many ticks in one call (sleep.c); the master's side (master.c);
+ * captures with and without faults (capture.c); the lamps (lamps.c); the larger family (family.c); then
+ * some 320,000 events against the second program (frames.c), and every
  * trim setting of every error against a plain search (trim.c). The first difference ends it with status 1.
  */
 #include <stdarg.h>
@@ -334,10 +335,12 @@ int main(int count, char **words) {
     check_fresh();
     check_views();
     check_steps();
+    check_line_refusals();
     check_catching_up();
     check_master();
     check_lamps();
     unsigned long events = check_frames(words[1], words[2]);
+    unsigned long lines = check_lines(words[1]);
     if (events < 100000) {
         differ("only %lu events in %s, must be at least 100000", events, words[1]);
     }
@@ -346,8 +349,8 @@ int main(int count, char **words) {
     unsigned long calls = check_handheld();
     unsigned long family = check_family();
     printf("ctest: %s: K12, %u cases of refusals and views, the master's side, %lu events as the second program, "
-           "%lu images put right, %lu calls of two masters by plain rules, %lu captures, %lu trim settings as a "
-           "plain search, the larger family by its page, %lu comparisons: equal\n",
-           words[0], cases, events, mended, calls, captures, check_trim(), family);
+           "the line asked at %lu, %lu images put right, %lu calls of two masters by plain rules, %lu captures, "
+           "%lu trim settings as a plain search, the larger family by its page, %lu comparisons: equal\n",
+           words[0], cases, events, lines, mended, calls, captures, check_trim(), family);
     return 0;
 }

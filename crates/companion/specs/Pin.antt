@@ -3,7 +3,7 @@
 -- Transfers).
 --   RELEASED ALARM SQUARE CALIBRATION   the pin's functions
 --   functionOf                          the function that the registers choose
---   pinOf                               bits 3 to 1 of an answer, as a number
+--   pinBy, pinOf                        bits 3 to 1 of an answer, as a number: by 00h and 0Eh; of a companion
 --   guardOf                             WP1 WP0, as a number
 -- Assumes nothing.
 use Prim.Native.Nat.{ℕ, _+_, _/_, _%_}
@@ -34,10 +34,12 @@ functionOf control setup =
 
 -- 01, Event bytes and answer bytes: "Bits 2 and 1 are the ACS pin's function .. Bit 3 is 1 exactly when the function
 -- is alarm and AF is 1".
+abbrev pub pinBy : ℕ → ℕ → ℕ
+pinBy control setup =
+    functionOf control setup + only (eqb (functionOf control setup) ALARM && has control AF) 4
+
 unfoldable pub pinOf : Companion → ℕ
-pinOf c =
-    functionOf (c .registers .control) (c .registers .setup)
-    + only (eqb (functionOf (c .registers .control) (c .registers .setup)) ALARM && has (c .registers .control) AF) 4
+pinOf c = pinBy (c .registers .control) (c .registers .setup)
 
 -- 01, Transfers: "Protection by WP1 WP0 of 0Eh".
 abbrev pub guardOf : Companion → ℕ

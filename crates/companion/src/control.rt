@@ -31,7 +31,7 @@ pub(crate) fn control_after(old: u8, byte: u8) -> u8
 }
 
 // 00h after it was read as a byte: a flag that the byte showed is cleared, one that rose later is not.
-pub(crate) fn flags_after(control: u8, byte: u8) -> u8
+pub fn flags_after(control: u8, byte: u8) -> u8
     ensures { λ r. ⌜ r ≡ flagsAfter control byte ⌝ }
 {
     let af = has(control, AF) & !has(byte, AF);

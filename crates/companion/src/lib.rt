@@ -22,7 +22,7 @@ pub mod control;
 mod limits;
 pub mod map;
 mod part;
-mod pin;
+pub mod pin;
 mod power;
 pub mod tick;
 mod write;

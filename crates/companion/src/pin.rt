@@ -2,7 +2,7 @@
 // What the registers show outside: the ACS pin, and which memory is protected.
 ghost use mathlib.Core.Path.{_≡_};
 ghost use Prim.Native.Nat.{_≤_};
-ghost use Rattle.companion.specs.Pin.{functionOf, pinOf, guardOf};
+ghost use Rattle.companion.specs.Pin.{functionOf, pinBy, pinOf, guardOf};
 use crate::Companion;
 use crate::map::AEN;
 use crate::map::AF;
@@ -37,13 +37,20 @@ fn function_of(control: u8, setup: u8) -> u8
     RELEASED
 }
 
+// Bits 3 to 1 of an answer as a number, by 00h and 0Eh: the function, and 4 more where it is alarm and AF is 1.
+pub fn pin_by(control: u8, setup: u8) -> u8
+    ensures { λ r. ⌜ (r ≡ pinBy control setup) × (r ≤ 7) ⌝ }
+{
+    let function = function_of(control, setup);
+    function + only((function == ALARM) & has(control, AF), 4)
+}
+
 impl Companion {
-    // Bits 3 to 1 of an answer as a number: the function, and 4 more where it is alarm and AF is 1.
+    // The same of a companion.
     pub fn pin(self) -> u8
         ensures { λ r. ⌜ (r ≡ pinOf self) × (r ≤ 7) ⌝ }
     {
-        let function = function_of(self.registers.control, self.registers.setup);
-        function + only((function == ALARM) & has(self.registers.control, AF), 4)
+        pin_by(self.registers.control, self.registers.setup)
     }
 
     // WP1 WP0 as a number.

@@ -43,7 +43,7 @@ fn accepted(state: State, answer: u8, rolled: Rolled) -> Stepped
 
 impl State {
     // An event that is no Clock: it touches no memory.
-    fn unclocked(self, event: u8) -> State
+    pub fn unclocked(self, event: u8) -> State
         requires { ⌜ (event ≤ 7) × (event / 2 ≡ 1 → ⊥) ⌝ }
         ensures { λ r. ⌜ Stills r (λ m. eventOf self m event) ⌝ }
     {

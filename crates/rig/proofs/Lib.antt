@@ -2,6 +2,7 @@
 pub mod Images
 pub mod BusBytes
 pub mod Accepts
+pub mod Places
 pub mod Runs
 pub mod Views
 pub mod Ends

@@ -3,7 +3,7 @@
 -- entries speak of `decodeOf`.
 --   isImage                     the test inside `decodeOf`, by name
 --   theEnd, companionBytes      bytes 30 to 63 of every image; bytes 0 to 22 of a companion
---   wordAt                      four bytes as one number
+--   transferBytes, wordAt       bytes 26 to 29 of a phase; four bytes as one number
 --   placesWithin                the limits that lie in bytes 0 to 24
 --   standsFor, busWithin        bytes 25 to 29 are written by some supplies and some phase, within their limits
 --   busTested                   the same, by the tests that the code makes
@@ -15,6 +15,7 @@ use lib.Dec.{eqb, leb, ltb}
 use lib.ListN.{getD, replicate}
 use Rattle.wire.specs.Slave.{slaveNames, answers}
 use Rattle.wire.specs.Limits.{phaseWithin}
+use Rattle.wire.specs.declared.Phase.{Phase}
 use Rattle.bus.specs.Limits.{powerWithin}
 use Rattle.companion.specs.Map.{LAST}
 use Rattle.companion.specs.Part.{isWithin}
@@ -22,7 +23,7 @@ use Rattle.companion.specs.Registers.{registerBytes}
 use Rattle.companion.specs.declared.Companion.{Companion}
 use Rattle.device.specs.Chip.{memorySize}
 use Rattle.device.specs.Limits.{isLegal, wellFormed}
-use Rattle.frame.specs.Layout.{powerOf, phaseOf}
+use Rattle.frame.specs.Layout.{powerOf, transferOf, phaseOf}
 use Rattle.frame.specs.Bytes.{sameBytes}
 use Rattle.rig.specs.Image.{mark, calendarBytes, imageOf, companionAt, candidate}
 
@@ -36,6 +37,10 @@ theEnd = replicate 31 0 ++ mark
 -- Bytes 0 to 22.
 abbrev pub companionBytes : Companion → List ℕ
 companionBytes c = registerBytes (c .registers) ++ calendarBytes (c .core) ++ c .address ∷ []
+
+-- Bytes 26 to 29.
+abbrev pub transferBytes : Phase → List ℕ
+transferBytes p = transferOf p .phase ∷ transferOf p .clocks ∷ transferOf p .byte ∷ transferOf p .first ∷ []
 
 -- Low byte first.
 abbrev pub wordAt : List ℕ → ℕ → ℕ

@@ -7,7 +7,8 @@
 use std::fmt;
 
 use fm3130::family::{self, Counts, Fm31256, Fm3164, Size};
-use fm3130::{Calendar, Device, Phase, Pin, PinFunction, Power, Rolled};
+use fm3130::event::{CLOCK_HIGH, CLOCK_LOW};
+use fm3130::{Calendar, Device, NextLine, Phase, Pin, PinFunction, Power, Rolled};
 
 /// A part that can be chosen.
 #[derive(Clone, Copy, Debug, PartialEq, Eq)]
@@ -240,6 +241,26 @@ impl Chip {
             Chip::Fm31256(device) => device.run_into(events, answers)?,
         }
         Ok(())
+    }
+
+    /// What the device will do to the line. The FM3130 has an entry for it; of another part it is seen by trying the clocks on
+    /// copies.
+    pub fn next_line(&self) -> Result<NextLine, Refused> {
+        if let Chip::Fm3130(device) = self {
+            return Ok(device.next_line());
+        }
+        Ok(NextLine {
+            pulled: self.pulls_last(&[CLOCK_HIGH])?,
+            pulled_after_low: self.pulls_last(&[CLOCK_LOW, CLOCK_HIGH])?,
+            pulled_after_high: self.pulls_last(&[CLOCK_HIGH, CLOCK_HIGH])?,
+        })
+    }
+
+    /// Whether the device pulls the last of some clocks, in which the master leaves the line high.
+    fn pulls_last(&self, clocks: &[u8]) -> Result<bool, Refused> {
+        let mut answers = vec![0; clocks.len()];
+        self.clone().run_into(clocks, &mut answers)?;
+        Ok(answers.last().is_some_and(|answer| answer & 1 == 0))
     }
 
     /// Runs ticks one by one; returns the highest field of the calendar that one of them changed.

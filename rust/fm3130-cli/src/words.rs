@@ -2,7 +2,7 @@
 //! A device in words: registers, calendar and pin or counters and serial number, addresses, power,
 //! bus.
 
-use fm3130::{family, registers, Calendar, Phase, PinFunction, Power};
+use fm3130::{family, registers, Calendar, NextLine, Phase, PinFunction, Power};
 
 use crate::chip::{Chip, Companion, Part, State};
 
@@ -26,6 +26,19 @@ pub fn of_device(device: &Chip) -> Vec<String> {
     lines.push(format!("Power      {}", state.power));
     lines.push(format!("Bus        {}", bus(&state)));
     lines
+}
+
+/// What the device will do to the line, of the next Clock and of the one after it.
+pub fn of_next_line(line: NextLine) -> Vec<String> {
+    let word = |pulled| if pulled { "pulled low" } else { "released" };
+    vec![
+        format!("Next line  {} by the device", word(line.pulled)),
+        format!(
+            "Then       {} after a low bit, {} after a high one",
+            word(line.pulled_after_low),
+            word(line.pulled_after_high)
+        ),
+    ]
 }
 
 /// Some registers of a part, the first of which has an address.

@@ -6,6 +6,7 @@
 //! takes slices and hands on exactly their pointers and lengths, so safe code cannot break the rule.
 
 use crate::family::{self, Size};
+use crate::line::NextLine;
 use crate::master;
 use crate::refusal::Refusal;
 use crate::trim::{Setting, Sign};
@@ -74,6 +75,13 @@ extern "C" {
         event: u64,
         told: *mut u8,
         told_length: u64,
+    ) -> u64;
+
+    fn fm3130_line(
+        image: *const u8,
+        image_length: u64,
+        memory: *const u8,
+        memory_length: u64,
     ) -> u64;
 
     fn fm3130_catch_up(image: *mut u8, image_length: u64, ticks: u64) -> u64;
@@ -296,6 +304,20 @@ pub fn step(
         )
     };
     Refusal::outcome_of(number)
+}
+
+/// What the device will do to the line.
+pub fn next_line(image: &[u8], memory: &[u8]) -> Result<NextLine, Refusal> {
+    // SAFETY: each pointer and length is a live slice's own, and the archive only reads.
+    let word = unsafe {
+        fm3130_line(
+            image.as_ptr(),
+            image.len() as u64,
+            memory.as_ptr(),
+            memory.len() as u64,
+        )
+    };
+    NextLine::of_word(word)
 }
 
 /// Does many ticks in one call.

@@ -9,6 +9,7 @@ use crate::calendar::Calendar;
 use crate::change::Change;
 use crate::entries;
 use crate::lamps::Report;
+use crate::line::NextLine;
 use crate::master;
 use crate::refusal::Refusal;
 use crate::rolled::{Rolled, Told};
@@ -159,6 +160,18 @@ impl Device {
             answer: Answer(answer),
             rolled: Rolled::of_number(field),
         })
+    }
+
+    /// What the device will do to the line of the next Clock, and of the one after it. Nothing is changed.
+    ///
+    /// ```
+    /// use fm3130::Device;
+    ///
+    /// assert!(!Device::fresh().next_line().pulled);
+    /// ```
+    pub fn next_line(&self) -> NextLine {
+        // Number 0 for every well-formed image and this much memory, so there is nothing to hand on.
+        archive::next_line(&self.image, &self.memory[..]).unwrap_or_default()
     }
 
     /// Puts right registers 02h to 08h and, by itself but by the same rule, the core: each field that

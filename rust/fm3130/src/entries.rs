@@ -3,6 +3,7 @@
 
 use crate::archive;
 use crate::lamps::Report;
+use crate::line::NextLine;
 use crate::refusal::Refusal;
 use crate::{selector, REGISTER_COUNT};
 
@@ -97,6 +98,26 @@ pub fn step(
     told: &mut [u8],
 ) -> Result<(), Refusal> {
     archive::step(image, memory, u64::from(event), told)
+}
+
+/// What the device of an image will do to the line of the next Clock, and of the one after it. Nothing
+/// is changed.
+///
+/// # Errors
+///
+/// [`Refusal::MemoryLength`] or [`Refusal::Image`], the first that applies.
+///
+/// ```
+/// use fm3130::{NextLine, Refusal};
+///
+/// let (mut image, memory) = ([0; 64], [0; 8192]);
+/// fm3130::fresh(&mut image)?;
+/// assert_eq!(fm3130::next_line(&image, &memory), Ok(NextLine::default())); // no transfer
+/// assert_eq!(fm3130::next_line(&image[1..], &memory), Err(Refusal::Image));
+/// # Ok::<(), Refusal>(())
+/// ```
+pub fn next_line(image: &[u8], memory: &[u8]) -> Result<NextLine, Refusal> {
+    archive::next_line(image, memory)
 }
 
 /// Does many ticks on a state image in one call: the image is left as [`run`] leaves it on a list of

@@ -15,7 +15,8 @@
 //! * [`Rolled`] says which field of the calendar a tick changed.
 //! * [`Device::mend`] puts an impossible date or time right; [`Change`] is a register that it changed.
 //! * [`masters`] shares a device between two masters: who holds the bus, and what is refused.
-//! * [`run`], [`run_with_lamps`], [`step`], [`catch_up`], [`ask`], [`call`], [`fresh`], [`view`] and [`mend`] are the
+//! * [`NextLine`] says what the device will do to the line, before a clock rises.
+//! * [`run`], [`run_with_lamps`], [`step`], [`next_line`], [`catch_up`], [`ask`], [`call`], [`fresh`], [`view`] and [`mend`] are the
 //!   archive's entries on slices of any length.
 //! * [`Refusal`] is why an entry did nothing, with 01's number.
 //! * [`capture`] writes and judges captures: a recorded run in one file.
@@ -59,6 +60,7 @@ mod entries;
 pub mod event;
 pub mod family;
 mod lamps;
+mod line;
 pub mod master;
 pub mod masters;
 mod refusal;
@@ -72,8 +74,9 @@ pub use answer::{Answer, Pin, PinFunction};
 pub use calendar::Calendar;
 pub use change::Change;
 pub use device::Device;
-pub use entries::{ask, call, catch_up, fresh, mend, run, run_with_lamps, step, view};
+pub use entries::{ask, call, catch_up, fresh, mend, next_line, run, run_with_lamps, step, view};
 pub use lamps::{Lamps, Report};
+pub use line::NextLine;
 pub use refusal::Refusal;
 pub use rolled::{Rolled, Told};
 pub use state::{Phase, Power, Side, State};

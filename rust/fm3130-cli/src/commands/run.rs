@@ -31,7 +31,7 @@ const OPTIONS: Options = Options {
         "--events",
         "--part",
     ],
-    alone: &["--quiet"],
+    alone: &["--quiet", "--next-line"],
 };
 
 /// Options that name files, with the script first.
@@ -68,6 +68,11 @@ pub fn command(words: Vec<OsString>) -> Outcome {
     if !is_quiet {
         output.line("")?;
         for line in words::of_device(&device) {
+            output.line(&line)?;
+        }
+    }
+    if arguments.has("--next-line") {
+        for line in words::of_next_line(device.next_line()?) {
             output.line(&line)?;
         }
     }

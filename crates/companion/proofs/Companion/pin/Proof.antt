@@ -1,34 +1,17 @@
 -- SPDX-License-Identifier: Apache-2.0
--- `companion::Companion::pin` meets its contract. The function, and 4 where it is alarm and AF is 1; 3 and 4 make 7.
+-- The pin by the companion's 00h and 0Eh.
 -- Assumes nothing.
 use borrow.Author.Needs.{needs}
-use native.Mathlib.Omega.{arith}
 use Rattle.companion.specs.Pin.{pinOf}
 use Rattle.companion.proofs.Companion.pin.Statement.{statement}
 use Rattle.companion.proofs.Companion.pin.Tie as tie
 
-function-of-requires : tie.Need-function-of-requires
-function-of-requires c κs = search needs
-
-has-requires : tie.Need-has-requires
-has-requires c κs = search needs
-
-only-requires : tie.Need-only-requires
-only-requires c κs = search needs
-
-add-result : tie.Need-add-result
-add-result c = search needs
+pin-by-requires : tie.Need-pin-by-requires
+pin-by-requires c κs = search needs
 
 returns : tie.Need-returns
 unfolding pinOf
-returns c = (
-  rw (c .only .ensures .0, c .before .has .ensures, c .before .before .function-of .ensures .0),
-  omega (
-    arith,
-    c .only .ensures .1,
-    c .before .before .function-of .ensures .1,
-  ),
-)
+returns c = c .pin-by .ensures
 
 pub pin-spec : {M : Type 1} → statement M
-pin-spec = tie.close (tie.spec function-of-requires has-requires only-requires add-result returns)
+pin-spec = tie.close (tie.spec pin-by-requires returns)
