@@ -6,8 +6,8 @@
 
 use std::fmt;
 
-use fm3130::family::{self, Counts, Fm31256, Fm3164, Size};
 use fm3130::event::{CLOCK_HIGH, CLOCK_LOW};
+use fm3130::family::{self, Counts, Fm31256, Fm3164, Size};
 use fm3130::{Calendar, Device, NextLine, Phase, Pin, PinFunction, Power, Rolled};
 
 /// A part that can be chosen.
