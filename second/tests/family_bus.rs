@@ -276,6 +276,38 @@ fn what_a_phase_holds() {
     assert!(!with(unnamed).is_well_formed(size));
 }
 
+fn whole_byte(phase: Phase, byte: u8) -> Transfer {
+    Transfer {
+        phase,
+        clocks: 8,
+        received_bits: std::array::from_fn(|place| byte >> (7 - place) & 1 == 1),
+        ..Transfer::none()
+    }
+}
+
+/// The limits on a phase are the FM3130's (READINGS 50 and 96): a whole slave
+/// byte names the part; a whole companion address byte may be any, in both.
+#[test]
+fn whole_bytes_as_in_the_fm3130() {
+    let fm3130 = second::state::State::of(&second::Device::fresh());
+    for phase in [Phase::SlaveByte, Phase::CompanionAddressByte] {
+        for byte in 0..=255_u8 {
+            let transfer = whole_byte(phase, byte);
+            let named = matches!(byte, 0xA0 | 0xA1 | 0xD0 | 0xD1);
+            let within = named || phase == Phase::CompanionAddressByte;
+            for size in SIZES {
+                let state = State {
+                    transfer,
+                    ..State::fresh()
+                };
+                assert_eq!(state.is_well_formed(size), within);
+            }
+            let state = second::state::State { transfer, ..fm3130 };
+            assert_eq!(state.is_well_formed(), within);
+        }
+    }
+}
+
 /// No event leads out of the limits.
 #[test]
 fn events_keep_the_limits() {

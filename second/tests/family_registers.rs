@@ -344,6 +344,49 @@ fn a_write_while_frozen_goes_to_the_counter() {
     assert_eq!(running, [0xCD, 0xAB, 0x01, 0xEF]);
 }
 
+/// "That loss clears 0Ch to 10h": at the moment both supplies are gone the
+/// snapshot becomes 0 with the counters, with RC 1 or 0 (READINGS 90). Without
+/// that loss it is kept.
+#[test]
+fn the_loss_of_both_supplies_clears_the_snapshot() {
+    for control in [0x08, 0x00] {
+        for losing in [&[6][..], &[5, 6], &[5, 7, 6]] {
+            for mut device in fresh_devices() {
+                set_counters(&mut device, 0x1234, 0x5678);
+                write(&mut device, 0x0C, &[0x08]);
+                write(&mut device, 0x0C, &[control]);
+                for event in losing {
+                    assert_ne!(device.power, Power::Gone);
+                    assert_eq!(device.snapshot, [0x34, 0x12, 0x78, 0x56]);
+                    device.event(*event);
+                }
+                assert_eq!(device.snapshot, [0; 4]);
+                assert_eq!(counters(&device), (0, 0));
+                device.run(&[8, 9, 5, 6, 7, 8, 9]);
+                assert_eq!(device.snapshot, [0; 4]);
+            }
+        }
+    }
+}
+
+/// "6 when both supplies are already gone, changes nothing" (01): a snapshot
+/// handed in then stays.
+#[test]
+fn no_second_loss_clears_a_snapshot() {
+    let state = State {
+        power: Power::Gone,
+        snapshot: [1, 2, 3, 4],
+        ..State::fresh()
+    };
+    for size in SIZES {
+        let mut device = state.device(size, vec![0; size.bytes()]);
+        device.run(&[6, 5]);
+        assert_eq!(State::of(&device), state);
+        device.event(7);
+        assert_eq!(device.snapshot, [1, 2, 3, 4]);
+    }
+}
+
 /// Backup keeps RC and the snapshot; the loss of both supplies clears RC.
 #[test]
 fn frozen_over_a_loss_of_power() {

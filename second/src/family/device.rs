@@ -125,7 +125,7 @@ impl Part for Device {
     }
 
     fn registers_lose_last_supply(&mut self) {
-        registers::lose_last_supply(&mut self.registers);
+        registers::lose_last_supply(&mut self.registers, &mut self.snapshot);
     }
 
     fn set_power_on_reset(&mut self) {

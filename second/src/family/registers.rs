@@ -187,8 +187,10 @@ fn add_one(counter: &mut [u8]) {
 // ----- supplies -----
 
 /// "That loss clears 0Ch to 10h and leaves 09h with POR and LB alone". 0Ah, 0Bh
-/// and 11h to 18h are nonvolatile.
-pub fn lose_last_supply(registers: &mut Registers) {
+/// and 11h to 18h are nonvolatile. The snapshot, a battery-backed copy of the
+/// counters, is cleared with them (READINGS 90).
+pub fn lose_last_supply(registers: &mut Registers, snapshot: &mut Snapshot) {
     registers[place(FLAGS)] = POWER_ON_RESET | LOW_BATTERY;
     registers[place(COUNT_CONTROL)..=place(LAST_COUNTER_BYTE)].fill(0);
+    snapshot.fill(0);
 }
