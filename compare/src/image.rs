@@ -1,6 +1,8 @@
 // SPDX-License-Identifier: Apache-2.0
 //! The second program's device as the 64 bytes of docs/IMAGE.md and back, and which images that page accepts.
 
+use std::ops::RangeInclusive;
+
 use second::device::{LogicalDevice, Phase, Transfer};
 use second::state::State;
 use second::{Calendar, Device, Power};
@@ -28,10 +30,46 @@ fn byte_under_way(transfer: &Transfer) -> u8 {
         Phase::BetweenTransfers => 0,
         Phase::ReadData(_) if transfer.clocks == 0 => 0,
         Phase::ReadData(_) => transfer.byte_sent,
-        _ => transfer.received_bits[..usize::from(transfer.clocks)]
+        _ => transfer
+            .received_bits
             .iter()
+            .take(usize::from(transfer.clocks))
             .fold(0, |byte, bit| byte * 2 + u8::from(*bit)),
     }
+}
+
+/// Bytes 22 to 29, the same in every part's image: the two addresses, the supplies, and where a transfer stands.
+pub fn bus_bytes(
+    companion_address: u8,
+    memory_address: u16,
+    power: Power,
+    transfer: &Transfer,
+) -> [u8; 8] {
+    let [high, low] = memory_address.to_be_bytes();
+    let supplies = match power {
+        Power::On => 0,
+        Power::Backup => 1,
+        Power::Gone => 2,
+    };
+    let phase = phase_number(transfer.phase);
+    let (clocks, byte) = match transfer.phase {
+        Phase::BetweenTransfers => (0, 0),
+        _ => (transfer.clocks, byte_under_way(transfer)),
+    };
+    let first = match transfer.phase {
+        Phase::MemoryAddressLowByte => transfer.memory_address_high_byte,
+        _ => 0,
+    };
+    [
+        companion_address,
+        high,
+        low,
+        supplies,
+        phase,
+        clocks,
+        byte,
+        first,
+    ]
 }
 
 /// The image of the second program's device.
@@ -49,22 +87,12 @@ pub fn of(device: &Device) -> [u8; IMAGE_BYTES] {
         core.year,
     ];
     image[15..22].copy_from_slice(&calendar);
-    image[22] = device.companion_address;
-    image[23..25].copy_from_slice(&device.memory_address.to_be_bytes());
-    image[25] = match device.power {
-        Power::On => 0,
-        Power::Backup => 1,
-        Power::Gone => 2,
-    };
-    let transfer = &device.transfer;
-    image[26] = phase_number(transfer.phase);
-    if transfer.phase != Phase::BetweenTransfers {
-        image[27] = transfer.clocks;
-        image[28] = byte_under_way(transfer);
-    }
-    if transfer.phase == Phase::MemoryAddressLowByte {
-        image[29] = transfer.memory_address_high_byte;
-    }
+    image[22..30].copy_from_slice(&bus_bytes(
+        device.companion_address,
+        device.memory_address,
+        device.power,
+        &device.transfer,
+    ));
     image[61..].copy_from_slice(&[0x31, 0x30, 0x01]);
     image
 }
@@ -75,8 +103,11 @@ const FREE_BITS: [u8; 22] = [
     0x7F, 0x3F, 0x07, 0x3F, 0x1F, 0xFF,
 ];
 
-/// Whether bytes 26 to 29 stand for a transfer within the limits.
-fn phase_within(phase: u8, clocks: u8, byte: u8, first: u8) -> bool {
+/// Whether bytes 26 to 29 stand for a transfer within the limits of a part whose companion has these addresses.
+pub fn phase_within(transfer: &[u8], addresses: &RangeInclusive<u8>) -> bool {
+    let &[phase, clocks, byte, first] = transfer else {
+        return false;
+    };
     let fits = clocks <= 8 && u16::from(byte) < (1 << clocks);
     let alone = first == 0;
     match phase {
@@ -84,7 +115,7 @@ fn phase_within(phase: u8, clocks: u8, byte: u8, first: u8) -> bool {
         1 => fits && alone && (clocks < 8 || [0xA0, 0xA1, 0xD0, 0xD1].contains(&byte)),
         2 | 5 | 6 => fits && alone,
         3 => fits,
-        4 => fits && alone && (clocks < 8 || byte <= 0x0E),
+        4 => fits && alone && (clocks < 8 || addresses.contains(&byte)),
         7 | 8 => clocks <= 8 && alone && (clocks > 0 || byte == 0),
         _ => false,
     }
@@ -100,7 +131,7 @@ pub fn is_accepted(image: &[u8]) -> bool {
         && image[22] <= 14
         && image[23] <= 0x1F
         && image[25] <= 2
-        && phase_within(image[26], image[27], image[28], image[29])
+        && phase_within(&image[26..30], &(0..=0x0E))
         && (image[25] == 0 || image[26] == 0)
         && image[30..61].iter().all(|byte| *byte == 0)
         && image[61..] == [0x31, 0x30, 0x01]

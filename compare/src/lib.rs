@@ -5,6 +5,7 @@
 //! * [`archive`]: the proved program's entries, as C sees them.
 //! * [`image`]: the second program's device as the 64 bytes of docs/IMAGE.md.
 //! * [`lists`]: a list of events on both, whole and in pieces.
+//! * [`family`]: the larger family on both, at each size.
 //! * [`lamps`]: the lamps on both, and lists that try them.
 //! * [`standin`]: what the proved stand-in is run on, and what it has to print.
 //! * [`captures`]: files to judge, the second program's verdict on each, and what the proved judge is run on.
@@ -16,6 +17,7 @@ pub mod almanac;
 pub mod archive;
 pub mod captures;
 pub mod edits;
+pub mod family;
 pub mod image;
 pub mod lamps;
 pub mod lists;
