@@ -72,6 +72,12 @@ mod foreign {
             changes_length: u64,
         ) -> Mended;
         pub fn fm3130_catch_up(image: *mut u8, image_length: u64, ticks: u64) -> u64;
+        pub fn fm3130_line(
+            image: *const u8,
+            image_length: u64,
+            memory: *const u8,
+            memory_length: u64,
+        ) -> u64;
         pub fn fm3130_write_events(
             address: u64,
             bytes: *const u8,
@@ -216,6 +222,19 @@ pub fn mend(image: &mut [u8], changes: &mut [u8]) -> Mended {
 pub fn catch_up(image: &mut [u8], ticks: u64) -> u64 {
     // SAFETY: a slice of Rust's is non-null, and its length is its own.
     unsafe { foreign::fm3130_catch_up(image.as_mut_ptr(), image.len() as u64, ticks) }
+}
+
+/// What the device will do to the line: the number of 01's table in the low byte, and a bit for each Clock that it pulls.
+pub fn line(image: &[u8], memory: &[u8]) -> u64 {
+    // SAFETY: both slices are non-null and only read, and their lengths are their own.
+    unsafe {
+        foreign::fm3130_line(
+            image.as_ptr(),
+            image.len() as u64,
+            memory.as_ptr(),
+            memory.len() as u64,
+        )
+    }
 }
 
 /// Writes the fresh image; the number of 01's table.
