@@ -3,13 +3,12 @@
  * chosen order with gaps, events from the input, the answers of the plain program; then numbers of the table, bytes and
  * the length are changed. Or it is the file itself. What is held: the verdict is the one of fuzz/verdicts.c, and the
  * file is not written. It lies at a page that may not be touched, so nothing beside it is read either. */
-#include <stdio.h>
-#include <stdlib.h>
 #include <string.h>
 
 #include "../bench/plain.h"
 #include "choice.h"
 #include "fenced.h"
+#include "hold.h"
 #include "rules.h"
 #include "verdicts.h"
 
@@ -37,14 +36,6 @@ int LLVMFuzzerInitialize(int *count, char ***words)
     (void)words;
     fence = fence_around(ROOM);
     return 0;
-}
-
-static void hold(int true_or_not, const char *what)
-{
-    if (!true_or_not) {
-        fprintf(stderr, "captures: this does not hold: %s\n", what);
-        abort();
-    }
 }
 
 static void put_number(uint32_t place, uint32_t number)

@@ -25,6 +25,15 @@ static inline uint16_t choose_pair(struct choices *choices)
     return (uint16_t)(high << 8 | choose_byte(choices));
 }
 
+/* The next so many bytes, as choices of their own. */
+static inline struct choices take_choices(struct choices *choices, size_t count)
+{
+    struct choices taken = {.next = choices->next, .left = count < choices->left ? count : choices->left};
+    choices->next += taken.left;
+    choices->left -= taken.left;
+    return taken;
+}
+
 /* Numbers around which sums wrap and limits lie, or any small one. */
 static inline uint64_t choose_number(struct choices *choices)
 {
@@ -34,7 +43,8 @@ static inline uint64_t choose_number(struct choices *choices)
     case 1: return ((uint64_t)1 << 63) + small;
     case 2: return (uint64_t)small << 48;
     case 3: return 8192u + (uint64_t)small % 4 - 2;
-    case 4: return 15u + (uint64_t)small % 4 - 2;
+    case 4: return 15u + (uint64_t)small % 8 - 3;
+    case 5: return 32768u + (uint64_t)small % 4 - 2;
     default: return small;
     }
 }

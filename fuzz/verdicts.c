@@ -40,7 +40,7 @@ static int all_are_events(const uint8_t *bytes, uint64_t count)
 static int part_is_refused(const uint8_t *file, struct entry entry)
 {
     switch (entry.kind) {
-    case KIND_IMAGE: return !image_is_accepted(file + entry.from, entry.size);
+    case KIND_IMAGE: return !image_is_accepted(&fm3130_limits, file + entry.from, entry.size);
     case KIND_MEMORY: return entry.size != MEMORY_BYTES;
     case KIND_EVENTS: return !all_are_events(file + entry.from, entry.size);
     default: return 0;

@@ -1,24 +1,30 @@
 #!/bin/sh
 # SPDX-License-Identifier: Apache-2.0
-# fuzz.sh SECONDS [captures]: builds a fuzz target over the proved archive for this machine and runs it for so long, on one
-# core and at low priority: the one of the device's entries, or the one of the judge of captures. What is written, all below
-# the repository's top, in build/fuzz or build/fuzz/captures:
+# fuzz.sh SECONDS [TARGET]: builds a fuzz target over the proved archive for this machine and runs it for so long, on one
+# core and at low priority. TARGET is entries (those of the FM3130's device and of its master, which is meant if none is
+# named) or captures (the judge of captures). What is written, all below the repository's top, in build/fuzz for entries
+# and in build/fuzz/TARGET for the other:
 #
-#   entries, captures    the target
-#   corpus               inputs that reach something new; the next run begins with them
-#   found                inputs on which something did not hold
-#   log.txt              what libFuzzer said
+#   TARGET      the target
+#   corpus      inputs that reach something new; the next run begins with them
+#   found       inputs on which something did not hold
+#   log.txt     what libFuzzer said
 set -eu
 
 fail() { printf 'fuzz: %s\n' "$*" >&2; exit 1; }
 
-usage() { fail "usage: fuzz.sh SECONDS [captures]"; }
+usage() { fail "usage: fuzz.sh SECONDS [entries|captures]"; }
 
 [ $# -ge 1 ] && [ $# -le 2 ] || usage
 seconds=$1
-case ${2:-entries} in
-entries) target=entries sources="fuzz/entries.c" out=build/fuzz ;;
-captures) target=captures sources="fuzz/captures.c fuzz/verdicts.c" out=build/fuzz/captures ;;
+target=${2:-entries}
+out=build/fuzz/$target
+case $target in
+entries)
+    sources="fuzz/entries.c fuzz/images.c fuzz/masters.c fuzz/calls.c fuzz/holding.c bench/plain.c"
+    out=build/fuzz
+    ;;
+captures) sources="fuzz/captures.c fuzz/verdicts.c bench/plain.c" ;;
 *) usage ;;
 esac
 cd "$(dirname "$0")/.."
@@ -29,7 +35,7 @@ log=$out/log.txt
 mkdir -p "$out/corpus" "$out/found"
 # shellcheck disable=SC2086 # the sources are several words
 clang -g -O1 -Wall -Wextra -Werror -fsanitize=fuzzer,address,undefined -fno-sanitize-recover=all \
-    $sources fuzz/fenced.c fuzz/rules.c bench/plain.c "$archive" -o "$out/$target"
+    $sources fuzz/fenced.c fuzz/rules.c "$archive" -o "$out/$target"
 
 # Leaks are not looked for: nothing is allocated, and the detector cannot work under a tracer.
 if ASAN_OPTIONS=detect_leaks=0 nice -n 10 "$out/$target" -max_total_time="$seconds" -max_len=1024 -print_final_stats=1 \
