@@ -35,8 +35,8 @@ FRAMES := crates/standin/stdin crates/standin/stdout
 # Prints fm3130.pc for a folder of headers and a folder of libraries.
 pkg_config = sed -e 's|@INCLUDE@|$(1)|' -e 's|@LIB@|$(2)|' -e 's|@VERSION@|$(VERSION)|' include/fm3130.pc.in
 
-# How long `make fuzz` runs.
-SECONDS := 600
+# How long `make fuzz` runs each of its targets.
+SECONDS := 200
 
 .PHONY: help test check demo lib archives install host ctest second compare edits all-edits web web-test bench fuzz fmt \
 	fmt-check setup clean
@@ -137,9 +137,11 @@ bench: lib ## the proved list run timed beside plain programs; the tables also g
 	@mkdir -p build/bench
 	@cargo run --offline --release --quiet --package bench | tee build/bench/SPEED.md
 
-fuzz: lib ## chosen bytes at the archive's C boundary, for SECONDS=600
+fuzz: lib ## chosen bytes at the archive's C boundary, three targets for SECONDS=200 each
 	@tools/setup.sh fuzz
-	@tools/fuzz.sh $(SECONDS)
+	@tools/fuzz.sh $(SECONDS) entries
+	@tools/fuzz.sh $(SECONDS) captures
+	@tools/fuzz.sh $(SECONDS) family
 
 fmt: ## format all Rattle and Rust files
 	@rt fmt

@@ -87,6 +87,21 @@ static void choose_state(const struct part *part, struct choices *choices, uint8
     image[SUPPLIES_PLACE] = choose_byte(choices) / 64 % 3;
 }
 
+/* A data byte is about to come for the first or the last address of a quarter of the memory, under some protection. */
+static void choose_quarter(const struct limits *limits, struct choices *choices, uint8_t *image)
+{
+    uint8_t choice = choose_byte(choices);
+    uint64_t quarters = limits->memory_bytes / 4 * (1 + choice % 4);
+    uint64_t address = (quarters - choice / 4 % 2) % limits->memory_bytes;
+    uint8_t *protection = &image[limits->protection_place];
+    *protection = (uint8_t)((*protection & ~0x18) | (choice & 0x18));
+    image[MEMORY_PLACE] = (uint8_t)(address >> 8);
+    image[MEMORY_PLACE + 1] = (uint8_t)address;
+    image[SUPPLIES_PLACE] = 0;
+    image[PHASE_PLACE] = 5;
+    memset(&image[PHASE_PLACE + 1], 0, 3);
+}
+
 /* The fresh image, one within the limits, or any bytes; then a few bytes are changed. */
 static void fill_image(const struct part *part, struct choices *choices, struct buffer image, uint8_t way)
 {
@@ -98,6 +113,8 @@ static void fill_image(const struct part *part, struct choices *choices, struct 
         choose_transfer(part, choices, chosen);
     if (way % 8 >= 4)
         part->liven(choices, chosen);
+    if (way & 0x20)
+        choose_quarter(part->limits, choices, chosen);
     for (uint64_t i = 0; i < image.length; i++)
         image.start[i] = way % 8 == 2 ? choose_byte(choices) : chosen[i % IMAGE_BYTES];
     scatter(choices, image, way % 8 == 3 ? way / 8 % 8 : 0);

@@ -11,6 +11,7 @@ const struct limits fm3130_limits = {
     .highest_register = 0x0E,
     .highest_event = 7,
     .told_bytes = 2,
+    .protection_place = 14,
     .free_bits = {0xFF, 0xBF, 0x7F, 0x7F, 0x3F, 0x07, 0x3F, 0x1F, 0xFF, 0xFF, 0xFF,
                   0xBF, 0xBF, 0x9F, 0xFF, 0x7F, 0x7F, 0x3F, 0x07, 0x3F, 0x1F, 0xFF},
     .mark = {0x31, 0x30, 0x01},
@@ -20,7 +21,7 @@ const struct limits fm3130_limits = {
 #define FAMILY_LIMITS(size)                                                                                            \
     {                                                                                                                  \
         .memory_bytes = (size), .register_bytes = 16, .lowest_register = 0x09, .highest_register = 0x18,               \
-        .highest_event = 9, .told_bytes = 1,                                                                           \
+        .highest_event = 9, .told_bytes = 1, .protection_place = 2,                                                    \
         .free_bits = {0xEF, 0x9F, 0x9F, 0x0F, 0xFF, 0xFF, 0xFF, 0xFF, 0xFF, 0xFF, 0xFF,                                \
                       0xFF, 0xFF, 0xFF, 0xFF, 0xFF, 0xFF, 0xFF, 0xFF, 0xFF, 0x00, 0x00},                               \
         .mark = {0x31, 0xCC, 0x01},                                                                                    \
