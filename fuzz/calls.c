@@ -128,6 +128,12 @@ static void fill_memory(struct choices *choices, struct buffer memory)
 
 /* ---- events */
 
+/* A register's address, or the one beside either end. */
+static uint8_t choose_register_byte(const struct limits *limits, struct choices *choices)
+{
+    return (uint8_t)(limits->lowest_register - 1 + choose_byte(choices) % (limits->register_bytes + 2));
+}
+
 /* One choice of bus traffic: a single event, a byte on the bus, a Start with one of the four slave bytes, or a
  * companion write up to its address byte. */
 static void add_traffic(const struct part *part, struct choices *choices, struct list *list)
@@ -142,7 +148,7 @@ static void add_traffic(const struct part *part, struct choices *choices, struct
         add_slave_byte(list, slave_bytes[kind & 3]);
     } else {
         add_slave_byte(list, 0xD0);
-        add_byte(list, choose_register(part->limits, choices), 1);
+        add_byte(list, choose_register_byte(part->limits, choices), 1);
     }
 }
 
