@@ -30,18 +30,20 @@ int LLVMFuzzerInitialize(int *count, char ***words)
     return 0;
 }
 
-/* A core near the end of a day or a month, registers that may agree with it, a running oscillator, and at times an
- * alarm within the next seconds. */
+/* A core near the end of a day, a month or the century, registers that may agree with it, a running oscillator, and at
+ * times an alarm within the next seconds. */
 static void liven(struct choices *choices, uint8_t *image)
 {
     static const uint8_t times[4][3] = {{0x59, 0x59, 0x23}, {0x50, 0x59, 0x23}, {0x58, 0x59, 0x19}, {0x09, 0x00, 0x00}};
     static const uint8_t dates[8][2] = {{0x28, 0x02}, {0x29, 0x02}, {0x31, 0x12}, {0x30, 0x04},
                                         {0x31, 0x04}, {0x31, 0x01}, {0x09, 0x09}, {0x30, 0x11}};
+    static const uint8_t years[4] = {0x99, 0x00, 0x08, 0x09};
     uint8_t way = choose_byte(choices);
     memcpy(image + CORE_PLACE, times[way & 3], sizeof times[0]);
     image[DAY_PLACE] = (uint8_t)(1 + (way >> 2) % 7);
     memcpy(image + DATE_PLACE, dates[way >> 5], sizeof dates[0]);
-    image[YEAR_PLACE] = choose_byte(choices);
+    uint8_t year = choose_byte(choices);
+    image[YEAR_PLACE] = year & 1 ? years[year / 2 % 4] : choose_byte(choices);
     image[TRIM_PLACE] &= 0x3F;
     uint8_t more = choose_byte(choices);
     if (more & 1)
