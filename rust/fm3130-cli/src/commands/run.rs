@@ -72,7 +72,10 @@ pub fn command(words: Vec<OsString>) -> Outcome {
         }
     }
     if arguments.has("--next-line") {
-        for line in words::of_next_line(device.next_line()?) {
+        let line = device
+            .next_line()
+            .map_err(|refusal| Failure::Refused(refusal.to_string()))?;
+        for line in words::of_next_line(line) {
             output.line(&line)?;
         }
     }
