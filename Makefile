@@ -32,6 +32,9 @@ COUNTING := scripts/counting.bus
 # Frames of events, and the lines that the second program wrote for them.
 FRAMES := crates/standin/stdin crates/standin/stdout
 
+# The firmware's part that is tested on this machine too, with a bit-banging master.
+PINS := -Ifirmware -Itests/wires firmware/pins.c tests/wires/*.c
+
 # Prints fm3130.pc for a folder of headers and a folder of libraries.
 pkg_config = sed -e 's|@INCLUDE@|$(1)|' -e 's|@LIB@|$(2)|' -e 's|@VERSION@|$(VERSION)|' include/fm3130.pc.in
 
@@ -88,8 +91,8 @@ host: lib ## the rig's host program in C: build/host/fm3130-host
 
 ctest: lib host ## the archives through the C headers (the official one too), the host, the guide's programs
 	@mkdir -p build/ctest
-	@$(CC) $(C99) tests/c/*.c build/native/libfm3130.a -o build/ctest/native
-	@$(CC_X86_64) $(C99) -static tests/c/*.c build/official/libfm3130.a -o build/ctest/official
+	@$(CC) $(C99) $(PINS) tests/c/*.c build/native/libfm3130.a -o build/ctest/native
+	@$(CC_X86_64) $(C99) $(PINS) -static tests/c/*.c build/official/libfm3130.a -o build/ctest/official
 	@$(CXX) $(STRICT) tests/c/plusplus.cc build/lib/libfm3130.a -o build/ctest/plusplus
 	@$(CC_X86_64) $(C99) -m32 -ffreestanding -fsyntax-only -x c include/fm31.h
 	@build/ctest/native $(FRAMES)

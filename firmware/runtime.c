@@ -1,7 +1,8 @@
 /* SPDX-License-Identifier: Apache-2.0 */
 /*
  * The few functions that a compiler may call by itself, and so the proved archive too, for firmware that
- * links no C library. Leave this file out where a library has them.
+ * links no C library. Leave this file out where a library has them. The targets are volatile, so that no
+ * compiler takes a loop for what it is and calls the function from within itself.
  */
 #include <stddef.h>
 #include <stdint.h>
@@ -11,7 +12,7 @@ void *memcpy(void *restrict to, const void *restrict from, size_t length);
 void *memmove(void *to, const void *from, size_t length);
 
 void *memset(void *to, int byte, size_t length) {
-    uint8_t *at = to;
+    volatile uint8_t *at = to;
     while (length-- > 0) {
         *at++ = (uint8_t)byte;
     }
@@ -23,7 +24,7 @@ void *memcpy(void *restrict to, const void *restrict from, size_t length) {
 }
 
 void *memmove(void *to, const void *from, size_t length) {
-    uint8_t *target = to;
+    volatile uint8_t *target = to;
     const uint8_t *source = from;
     if ((uintptr_t)target <= (uintptr_t)source) {
         while (length-- > 0) {

@@ -54,6 +54,12 @@ unsigned long check_captures(void);
 /* The master's functions: exact events, bytes that come back, what answers tell, refusals. */
 void check_master(void);
 
+/*
+ * firmware/pins.c on two wires, with a master that knows only levels and ticks at many places. Returns the
+ * number of clocks.
+ */
+unsigned long check_pins(void);
+
 /* fm3130_lamps: what lights and darkens a lamp, and what is refused. */
 void check_lamps(void);
 

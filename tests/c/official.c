@@ -6,8 +6,8 @@
  * K12's exact run, whole and in pieces; every refusal with untouched buffers; their order; the
  * fresh image; the viewer's number and the inline viewer; one event by itself (step.c); the next line
  * (line.c); images put right (mend.c); many ticks in one call (sleep.c); the master's side (master.c);
- * captures with and without faults (capture.c); the lamps (lamps.c); the larger family (family.c); then
- * some 320,000 events against the second program (frames.c), and every
+ * captures with and without faults (capture.c); the lamps (lamps.c); firmware/pins.c (pins.c); the
+ * larger family (family.c); then some 320,000 events against the second program (frames.c), and every
  * trim setting of every error against a plain search (trim.c). The first difference ends it with status 1.
  */
 #include <stdarg.h>
@@ -347,10 +347,12 @@ int main(int count, char **words) {
     unsigned long mended = check_mends();
     unsigned long captures = check_captures();
     unsigned long calls = check_handheld();
+    unsigned long clocks = check_pins();
     unsigned long family = check_family();
     printf("ctest: %s: K12, %u cases of refusals and views, the master's side, %lu events as the second program, "
-           "the line asked at %lu, %lu images put right, %lu calls of two masters by plain rules, %lu captures, "
-           "%lu trim settings as a plain search, the larger family by its page, %lu comparisons: equal\n",
-           words[0], cases, events, lines, mended, calls, captures, check_trim(), family);
+           "the line asked at %lu, %lu images put right, %lu calls of two masters by plain rules, %lu clocks on two "
+           "wires, %lu captures, %lu trim settings as a plain search, the larger family by its page, %lu "
+           "comparisons: equal\n",
+           words[0], cases, events, lines, mended, calls, clocks, captures, check_trim(), family);
     return 0;
 }
