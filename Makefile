@@ -41,8 +41,8 @@ pkg_config = sed -e 's|@INCLUDE@|$(1)|' -e 's|@LIB@|$(2)|' -e 's|@VERSION@|$(VER
 # How long `make fuzz` runs each of its targets.
 SECONDS := 200
 
-.PHONY: help test check demo lib archives install host ctest second compare edits all-edits web web-test bench fuzz fmt \
-	fmt-check setup clean
+.PHONY: help test check demo lib archives install host ctest second compare edits all-edits web web-test controller bench \
+	fuzz fmt fmt-check setup clean
 
 help: ## list these targets
 	@awk -F':.*## ' '/^[a-z-]+:.*## / { printf "make %-10s %s\n", $$1, $$2 }' Makefile
@@ -133,6 +133,12 @@ web-test: web ## the tests of the module, of the page beside the command, and of
 	@cargo build --offline --release --quiet --package fm3130-cli
 	@node --test tests/web/*.test.mjs
 	@/usr/bin/python3 tests/web/browser.py build/web/fm3130.html build/cargo/release/fm3130 build/web-test
+
+# Not part of `make test`: its emulators and GCC for ARM are 110 MB to fetch and 700 MB when installed.
+controller: lib ## archives for controllers (build/controller), tested on emulated boards; one table of what came out
+	@tools/setup.sh controller
+	@tools/controller-archives.sh $(ARCHIVES)
+	@tools/controller.sh test
 
 # Neither of the next two is part of `make test`: times differ from machine to machine, and a search has no end.
 bench: lib ## the proved list run timed beside plain programs; the tables also go to build/bench/SPEED.md

@@ -1,8 +1,8 @@
 #!/bin/sh
 # SPDX-License-Identifier: Apache-2.0
-# setup.sh [bench|fuzz|node|web]: sees that all that `make test` needs is on this Debian machine, and
-# installs what is missing; with a word also what the measurements, the fuzzer, the page (node) or its
-# tests in a browser (web) need. It says nothing and needs no network where all is there. The Rattle kit
+# setup.sh [bench|controller|fuzz|node|web]: sees that all that `make test` needs is on this Debian machine, and
+# installs what is missing; with a word also what the measurements, the emulated controllers, the fuzzer,
+# the page (node) or its tests in a browser (web) need. It says nothing and needs no network where all is there. The Rattle kit
 # itself is in no package: without `rt` it stops.
 set -eu
 
@@ -47,6 +47,11 @@ fi
 case ${1:-} in
 '') ;;
 bench) need valgrind valgrind ;;
+controller)
+    need qemu-system-arm qemu-system-arm
+    need qemu-system-riscv32 qemu-system-misc
+    need arm-none-eabi-gcc gcc-arm-none-eabi
+    ;;
 fuzz)
     need clang clang
     need_fuzzer libclang-rt-14-dev # of Debian 12's clang
@@ -58,7 +63,7 @@ web)
     need chromedriver chromium-driver
     need_python selenium python3-selenium
     ;;
-*) fail "usage: setup.sh [bench|fuzz|node|web]" ;;
+*) fail "usage: setup.sh [bench|controller|fuzz|node|web]" ;;
 esac
 
 [ -n "$missing" ] || exit 0

@@ -20,8 +20,12 @@ static void fault(void) {
 }
 
 /* The stack, the first function, and the faults: no interrupt is used. */
-__attribute__((section(".vectors"), used)) static const void *const vectors[16] = {
-    top_of_stack,        (const void *)board_run, (const void *)fault, (const void *)fault,
-    (const void *)fault, (const void *)fault,     (const void *)fault};
+struct vectors {
+    uint32_t *stack;
+    void (*functions[15])(void);
+};
+
+__attribute__((section(".vectors"), used)) static const struct vectors vectors = {
+    top_of_stack, {board_run, fault, fault, fault, fault, fault}};
 
 #endif

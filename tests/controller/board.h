@@ -15,7 +15,7 @@
 /* One semihosting call: the emulator does it for the program. */
 uintptr_t board_call(uintptr_t operation, const void *argument);
 
-/* Makes the clock of board_ticks run. */
+/* Makes the processor ready and the clock of board_ticks run; it is called first, before C's own memory is. */
 void board_begin(void);
 
 /* The emulated clock, which goes on by the same span at every instruction. It wraps. */
@@ -23,19 +23,6 @@ uint32_t board_ticks(void);
 
 /* The instructions between two readings of the clock, this many ticks apart. */
 uint32_t board_instructions(uint32_t ticks);
-
-/* The stack pointer: all words below it are free, down to board_stack_floor. */
-static inline uint32_t *board_stack(void) {
-    uint32_t *pointer;
-#ifdef __riscv
-    __asm__ volatile("mv %0, sp" : "=r"(pointer));
-#else
-    __asm__ volatile("mov %0, sp" : "=r"(pointer));
-#endif
-    return pointer;
-}
-
-extern uint32_t board_stack_floor[];
 
 /* ---- by support.c */
 
@@ -56,11 +43,20 @@ void say_hex(uint32_t number, unsigned digits);
 void differ(const char *what, uint32_t is, uint32_t must_be) __attribute__((noreturn));
 void check_equal(const char *what, uint32_t is, uint32_t must_be);
 
+/* A call that is measured. */
+typedef uint32_t measurable(uint32_t argument);
+
+/* Makes a call and returns the bytes of stack that it wrote below its caller's: they were painted before. */
+uint32_t stack_of(measurable *measured, uint32_t argument);
+
 /* A file of the person who runs the emulator; reading past its end ends the program. */
 uintptr_t file_open(const char *name);
 uint32_t file_read(uintptr_t file, void *bytes, uint32_t length);
 
-/* The words after the program's name on the emulator's command line. */
-const char *board_words(void);
+/* A number in decimal digits. */
+uint32_t number_of(const char *text);
+
+/* A word of the emulator's command line, counted from 1. */
+const char *board_word(unsigned which);
 
 #endif

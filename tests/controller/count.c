@@ -5,32 +5,19 @@
  */
 #include "board.h"
 #include "fm3130.h"
+#include "table.h"
 
-enum {
-    ANEW = 0xFFFF,
-    ROOM = 2560,
-    CLOCKS_AT = 27,
-    ADDRESS_AT = 23,
-    PAINT = 0x5EED5EED,
-    PAINTED_WORDS = 256
-};
+enum { ANEW = 0xFFFF, ROOM = 2560, CLOCKS_AT = 27, ADDRESS_AT = 23 };
 
 enum kind { START, STOP, CLOCK, EIGHTH, TICK, POWER, LINE, KINDS };
 
-static const char *const names[KINDS] = {"Start", "Stop ", "Clock",      "Clock, a byte's eighth",
-                                         "tick ", "power", "fm3130_line"};
-
-struct row {
-    uint32_t calls, total, worst, stack;
-};
+static const char *const names[KINDS] = {"Start", "Stop",  "Clock",      "Clock, a byte's eighth",
+                                         "tick",  "power", "fm3130_line"};
 
 static struct row rows[KINDS];
 static uint8_t image[FM3130_IMAGE_BYTES], memory[FM3130_MEMORY_BYTES], events[ROOM],
     told[FM3130_TOLD_BYTES];
 static uint32_t overhead;
-
-uint64_t fm3130_line(const uint8_t *image, uint64_t image_length, const uint8_t *memory,
-                     uint64_t memory_length) __attribute__((weak));
 
 /* ---- the calls that are measured, each with an event, so that all cost the same around */
 
@@ -54,51 +41,18 @@ __attribute__((noinline)) static uint32_t do_thousand(uint32_t event) {
     return event;
 }
 
-typedef uint32_t call(uint32_t event);
-
 /* The instructions of a call, with the cost of measuring in them. */
-__attribute__((noinline)) static uint32_t gross(call *measured, uint32_t event, uint32_t *result) {
+__attribute__((noinline)) static uint32_t gross(measurable *measured, uint32_t event,
+                                                uint32_t *result) {
     uint32_t began = board_ticks();
     *result = measured(event);
     return board_instructions(board_ticks() - began);
 }
 
-/* The stack words that a call writes below its caller's. */
-__attribute__((noinline)) static uint32_t stack_of(call *measured, uint32_t event) {
-    uint32_t *here = board_stack();
-    uint32_t *floor = here - PAINTED_WORDS;
-    for (volatile uint32_t *at = floor; at != here; at++) {
-        *at = PAINT;
-    }
-    measured(event);
-    volatile uint32_t *at = floor;
-    while (*at == PAINT) {
-        at++;
-    }
-    return (uint32_t)((uintptr_t)here - (uintptr_t)at);
-}
-
-/* ---- the table */
-
-/* A division by subtraction of shifted numbers. */
-static uint32_t quotient(uint32_t number, uint32_t divisor) {
-    uint32_t result = 0;
-    for (int shift = 31; shift >= 0; shift--) {
-        if (number >> shift >= divisor) {
-            number -= divisor << shift;
-            result |= (uint32_t)1 << shift;
-        }
-    }
-    return result;
-}
+/* ---- the frames */
 
 static void note(enum kind kind, uint32_t instructions) {
-    struct row *row = &rows[kind];
-    row->calls++;
-    row->total += instructions - overhead;
-    if (instructions - overhead > row->worst) {
-        row->worst = instructions - overhead;
-    }
+    row_note(&rows[kind], instructions - overhead);
 }
 
 static enum kind kind_of(uint8_t event) {
@@ -110,27 +64,6 @@ static enum kind kind_of(uint8_t event) {
     }
     return event == FM3130_TICK ? TICK : POWER;
 }
-
-static void say_table(void) {
-    for (int kind = 0; kind < KINDS; kind++) {
-        const struct row *row = &rows[kind];
-        if (row->calls == 0) {
-            continue;
-        }
-        say(names[kind]);
-        say("\t");
-        say_number(row->calls, 0);
-        say("\t");
-        say_number(quotient(row->total + row->calls / 2, row->calls), 0);
-        say("\t");
-        say_number(row->worst, 0);
-        say("\t");
-        say_number(row->stack, 0);
-        say("\n");
-    }
-}
-
-/* ---- the frames */
 
 /*
  * The step once more on the same state, to measure its stack. A step changes the image, and of the memory at most the byte at
@@ -156,12 +89,10 @@ static void measure_stack(enum kind kind, uint8_t event) {
 static void one_event(uint8_t event) {
     enum kind kind = kind_of(event);
     uint32_t number;
-    if (fm3130_line != 0) {
-        note(LINE, gross(do_line, event, &number));
-        check_equal("fm3130_line: number", number & 0xFF, FM3130_OK);
-        uint32_t used = stack_of(do_line, event);
-        rows[LINE].stack = used > rows[LINE].stack ? used : rows[LINE].stack;
-    }
+    note(LINE, gross(do_line, event, &number));
+    check_equal("fm3130_line: number", number & FM3130_LINE_NUMBER, FM3130_OK);
+    uint32_t used = stack_of(do_line, event);
+    rows[LINE].stack = used > rows[LINE].stack ? used : rows[LINE].stack;
     measure_stack(kind, event);
     note(kind, gross(do_step, event, &number));
     check_equal("fm3130_step: number", number, FM3130_OK);
@@ -195,7 +126,7 @@ static void check_clock(void) {
 
 int main(void) {
     check_clock();
-    run_frames(file_open(board_words()));
-    say_table();
+    run_frames(file_open(board_word(1)));
+    table_say(names, rows, KINDS);
     return 0;
 }

@@ -11,7 +11,13 @@ struct timer {
 
 #define TIMER ((volatile struct timer *)0x40000000u)
 
+#define ACCESS_CONTROL (*(volatile uint32_t *)0xE000ED88u)
+
+enum { FLOATING_POINT = 0xF << 20 };
+
+/* GCC moves words through the registers of floating point, where a target has them: they must be on. */
 void board_begin(void) {
+    ACCESS_CONTROL |= FLOATING_POINT;
     TIMER->reload = 0xFFFFFFFFu;
     TIMER->value = 0xFFFFFFFFu;
     TIMER->control = 1;

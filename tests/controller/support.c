@@ -9,12 +9,15 @@ enum {
     SYS_GET_CMDLINE = 0x15,
     SYS_EXIT_EXTENDED = 0x20,
     OPEN_TO_READ = 1, /* "rb" */
-    APPLICATION_EXIT = 0x20026
+    APPLICATION_EXIT = 0x20026,
+    PAINT = 0x5EED5EED,
+    PAINTED_WORDS = 320
 };
 
 extern uint32_t image_of_data[], begin_of_data[], end_of_data[], begin_of_bss[], end_of_bss[];
 
 void board_run(void) {
+    board_begin();
     uint32_t *from = image_of_data;
     for (uint32_t *to = begin_of_data; to != end_of_data;) {
         *to++ = *from++;
@@ -22,7 +25,6 @@ void board_run(void) {
     for (uint32_t *to = begin_of_bss; to != end_of_bss;) {
         *to++ = 0;
     }
-    board_begin();
     board_end(main());
 }
 
@@ -84,6 +86,30 @@ void check_equal(const char *what, uint32_t is, uint32_t must_be) {
     }
 }
 
+/* The stack pointer: all below it is free. */
+static inline uint32_t *stack_pointer(void) {
+    uint32_t *pointer;
+#ifdef __riscv
+    __asm__ volatile("mv %0, sp" : "=r"(pointer));
+#else
+    __asm__ volatile("mov %0, sp" : "=r"(pointer));
+#endif
+    return pointer;
+}
+
+__attribute__((noinline)) uint32_t stack_of(measurable *measured, uint32_t argument) {
+    volatile uint32_t *here = stack_pointer();
+    volatile uint32_t *at = here - PAINTED_WORDS;
+    for (unsigned i = 0; i < PAINTED_WORDS; i++) {
+        at[i] = PAINT;
+    }
+    measured(argument);
+    while (at != here && *at == PAINT) {
+        at++;
+    }
+    return (uint32_t)((uintptr_t)here - (uintptr_t)at);
+}
+
 static uint32_t length_of(const char *text) {
     uint32_t length = 0;
     while (text[length] != '\0') {
@@ -107,13 +133,27 @@ uint32_t file_read(uintptr_t file, void *bytes, uint32_t length) {
     return length - (uint32_t)board_call(SYS_READ, words);
 }
 
-const char *board_words(void) {
+uint32_t number_of(const char *text) {
+    uint32_t number = 0;
+    for (; *text >= '0' && *text <= '9'; text++) {
+        number = number * 10 + (uint32_t)(*text - '0');
+    }
+    return number;
+}
+
+const char *board_word(unsigned which) {
     static char line[256];
     uintptr_t words[2] = {(uintptr_t)line, sizeof line};
     board_call(SYS_GET_CMDLINE, words);
-    const char *at = line;
-    while (*at != '\0' && *at != ' ') {
-        at++;
+    char *at = line;
+    while (which-- > 0) {
+        while (*at != '\0' && *at++ != ' ') {
+        }
     }
-    return *at == ' ' ? at + 1 : at;
+    for (char *end = at; *end != '\0'; end++) {
+        if (*end == ' ') {
+            *end-- = '\0';
+        }
+    }
+    return at;
 }

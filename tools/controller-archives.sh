@@ -1,0 +1,69 @@
+#!/bin/sh
+# SPDX-License-Identifier: Apache-2.0
+# controller-archives.sh CRATE...: compiles the proved modules of the crates for controllers. What is written:
+#
+#   build/controller/TARGET/libfm3130.a   one for each target of tools/controller-options.sh
+#   build/controller/sizes.txt            bytes of text and data, a line for each target and crate
+#   build/controller/stamp                a sum over all that these were made from
+#
+# build/bitcode/CRATE.bc is what tools/native-archive.sh kept. Before it is used it is compiled for x86-64 and
+# must be the official object byte for byte, so it is the program that was proved. For controllers the options
+# are the same but for the target and for position-independent code, of which firmware has no use. Nothing is
+# done while the stamp still fits.
+set -eu
+
+fail() { printf 'controller-archives: %s\n' "$*" >&2; exit 1; }
+
+[ $# -ge 1 ] || fail "usage: controller-archives.sh CRATE..."
+cd "$(dirname "$0")/.."
+. tools/controller-options.sh
+tools=$(tools/kit.sh)/on/$(uname -m)/toolchain/bin
+built=build/controller
+
+for crate in "$@"; do
+    [ -f "build/bitcode/$crate.bc" ] && [ -f "build/official/lib$crate.a" ] ||
+        fail "build/bitcode/$crate.bc is missing; make it by \`make lib\`"
+done
+
+# ---- what the archives are made from
+
+# shellcheck disable=SC2086 # one word a target
+sum=$({
+    rt version
+    cat tools/controller-archives.sh tools/controller-options.sh
+    for crate in "$@"; do sha256sum "build/bitcode/$crate.bc" "build/official/lib$crate.a"; done
+} | sha256sum | cut -d' ' -f1)
+if [ "$(cat "$built/stamp" 2>/dev/null)" = "$sum" ]; then
+    echo "controller-archives: $built is up to date"
+    exit 0
+fi
+
+rm -rf "$built"
+mkdir -p "$built"
+work=$(mktemp -d)
+trap 'rm -rf "$work"' EXIT
+trap 'exit 1' HUP INT TERM
+
+# ---- the modules are the official ones
+
+for crate in "$@"; do
+    compile_module "build/bitcode/$crate.bc" "$work/x86_64.o" --target=x86_64-linux-gnu -fPIC
+    "$tools/llvm-ar" p "build/official/lib$crate.a" >"$work/official.o"
+    cmp -s "$work/x86_64.o" "$work/official.o" ||
+        fail "build/bitcode/$crate.bc compiled for x86-64 is not the official object"
+done
+
+# ---- an archive for each target
+
+for target in $controller_targets; do
+    mkdir -p "$work/$target" "$built/$target"
+    for crate in "$@"; do
+        # shellcheck disable=SC2046 # one word an option
+        compile_module "build/bitcode/$crate.bc" "$work/$target/$crate.o" $(options_for "$target")
+        size "$work/$target/$crate.o" |
+            awk -v target="$target" -v crate="$crate" 'NR == 2 { print target, crate, $1, $2 + $3 }'
+    done >>"$built/sizes.txt"
+    "$tools/llvm-ar" rcs "$built/$target/libfm3130.a" "$work/$target"/*.o
+done
+echo "$sum" >"$built/stamp"
+echo "controller-archives: $built made for $controller_targets from the proved modules of $*"
