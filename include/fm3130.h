@@ -53,9 +53,11 @@
  *              events, sizeof events, answers, sizeof answers);
  *
  * Link with libfm3130.a, which needs no other library, not even that of C. It is built for 64-bit
- * targets, x86-64 and arm64. Where a target hands back a struct of two words in another way than the
- * archive does, as 32-bit Arm, the functions that return one cannot be used, and using one is an
- * error of compilation; the others can.
+ * targets, x86-64 and arm64, and by `make controller` for Cortex-M4, Cortex-M0 and 32-bit RISC-V,
+ * where it needs the functions of firmware/runtime.c or a library's (docs/CONTROLLER.md). Where a
+ * target hands back a struct of two words in another way than the archive does, as 32-bit Arm, the
+ * functions that return one cannot be used, and using one is an error of compilation; the others
+ * can.
  *
  * For every function: Allocates nothing, keeps nothing, thread-safe on distinct buffers. It does
  * no input or output and always returns.
