@@ -109,7 +109,9 @@ static void turn(struct pins *pins, uint8_t sda) {
 static void look_at_both(struct pins *pins) {
     uint8_t sda = pins_read_sda() != 0;
     if (pins_read_scl() == 0) {
-        /* It fell meanwhile, so this SDA may be the next clock's. Of a whole pulse none is known. */
+        /*
+         * It fell meanwhile, so this SDA may be the next clock's. Of a whole pulse none is known.
+         */
         if (pins->scl) {
             fall(pins);
         } else {
@@ -135,10 +137,11 @@ unsigned pins_look(struct pins *pins) {
 }
 
 /*
- * The pulse has lasted from one tick or power event to the next: the master hangs in it, and what waits
- * must not wait for ever. A byte's eighth Clock cannot be taken yet, for a Stop may still cut the byte;
- * but no tick changes its line, so what waits goes before it. Any other Clock is taken now: should
- * Start or Stop come, they leave what they leave without it. SDA stays as it is until SCL falls.
+ * The pulse has lasted from one tick or power event to the next: the master hangs in it, and what
+ * waits must not wait for ever. A byte's eighth Clock cannot be taken yet, for a Stop may still cut
+ * the byte; but no tick changes its line, so what waits goes before it. Any other Clock is taken
+ * now: should Start or Stop come, they leave what they leave without it. SDA stays as it is until
+ * SCL falls.
  */
 static void outlast(struct pins *pins) {
     if (pins->is_open && pins->image[CLOCKS_AT] != BEFORE_EIGHTH) {
@@ -171,8 +174,8 @@ unsigned pins_due(struct pins *pins, uint8_t event) {
 }
 
 /*
- * The first event changes nothing, power returned where it is on or lost where it is off; it is done
- * for its answer, which has the ACS pin.
+ * The first event changes nothing, power returned where it is on or lost where it is off; it is
+ * done for its answer, which has the ACS pin.
  */
 unsigned pins_begin(struct pins *pins, uint8_t *image, uint8_t *memory) {
     pins->image = image;

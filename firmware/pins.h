@@ -2,8 +2,8 @@
 /*
  * pins.h: the proved device on the pins of a controller, for firmware in C without a library.
  *
- * It turns the levels of SCL and SDA into the events of fm3130.h, drives SDA as the device does, open
- * drain, and never touches SCL. No rule of the part stands here: the proved archive is asked.
+ * It turns the levels of SCL and SDA into the events of fm3130.h, drives SDA as the device does,
+ * open drain, and never touches SCL. No rule of the part stands here: the proved archive is asked.
  *
  *   static uint8_t image[FM3130_IMAGE_BYTES], memory[FM3130_MEMORY_BYTES];
  *   static struct pins pins;
@@ -34,8 +34,8 @@ void pins_pull_sda(void);    /* SDA low */
 void pins_release_sda(void); /* SDA let go: the resistor or somebody else decides */
 
 /*
- * Why the device has left the bus, beside enum fm3130_number: the controller was not quick enough, so
- * that a bit on the wire may have been another than the device's.
+ * Why the device has left the bus, beside enum fm3130_number: the controller was not quick enough,
+ * so that a bit on the wire may have been another than the device's.
  */
 #define PINS_LATE 0x80u
 
@@ -54,8 +54,8 @@ struct pins {
 };
 
 /*
- * Begins with a device in the two buffers, in the middle of a transfer too, and with SDA released. A
- * pulse under way is not counted. Returns 0, or 2 where the image is refused.
+ * Begins with a device in the two buffers, in the middle of a transfer too, and with SDA released.
+ * A pulse under way is not counted. Returns 0, or 2 where the image is refused.
  */
 unsigned pins_begin(struct pins *pins, uint8_t *image, uint8_t *memory);
 
@@ -64,8 +64,8 @@ unsigned pins_begin(struct pins *pins, uint8_t *image, uint8_t *memory);
  * one of them.
  *
  * Start and Stop are done when SDA turns while SCL is high. A Clock is a whole pulse, done when SCL
- * falls, with the level that SDA had at its rise. At the fall SDA is driven first, by what fm3130_line
- * said before, then the event is done and the line is asked again.
+ * falls, with the level that SDA had at its rise. At the fall SDA is driven first, by what
+ * fm3130_line said before, then the event is done and the line is asked again.
  *
  * Returns 0, or the number under which the device has left the bus: SDA is released, and no later
  * look, tick or power event does anything until pins_begin. See docs/CONTROLLER.md, "Refusals".
@@ -73,9 +73,9 @@ unsigned pins_begin(struct pins *pins, uint8_t *image, uint8_t *memory);
 unsigned pins_look(struct pins *pins);
 
 /*
- * A tick or a power event, FM3130_TICK to FM3130_POWER_RETURNED. It is done at once, but if a pulse is
- * open it waits for its end; where the next one finds it still waiting, the master hangs, and both are
- * done. Looks at the wires first. Returns as pins_look does; 3 for any other event.
+ * A tick or a power event, FM3130_TICK to FM3130_POWER_RETURNED. It is done at once, but if a pulse
+ * is open it waits for its end; where the next one finds it still waiting, the master hangs, and
+ * both are done. Looks at the wires first. Returns as pins_look does; 3 for any other event.
  */
 unsigned pins_due(struct pins *pins, uint8_t event);
 

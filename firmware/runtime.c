@@ -1,8 +1,8 @@
 /* SPDX-License-Identifier: Apache-2.0 */
 /*
- * The few functions that a compiler may call by itself, and so the proved archive too, for firmware that
- * links no C library. Leave this file out where a library has them. The targets are volatile, so that no
- * compiler takes a loop for what it is and calls the function from within itself.
+ * The few functions that a compiler may call by itself, and so the proved archive too, for firmware
+ * that links no C library. Leave this file out where a library has them. The targets are volatile,
+ * so that no compiler takes a loop for what it is and calls the function from within itself.
  */
 #include <stddef.h>
 #include <stdint.h>

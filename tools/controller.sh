@@ -25,7 +25,7 @@ lines=crates/standin/stdout
 ceilings=$sources/ceilings.txt
 expected=firmware/example/expected.txt
 
-# What is played on the wires: a tick at every so manieth place of the session, and of the turn of a year; times of noise.
+# What is played on the wires: a tick at every n-th place of the session, and of the turn of a year; times of noise.
 wires_words='61 1 1000'
 wires_words_gcc='97 7 1000'
 cost_stride=301

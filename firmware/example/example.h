@@ -1,5 +1,8 @@
 /* SPDX-License-Identifier: Apache-2.0 */
-/* The parts of the example: what the board gives, what stands at its pins, and the firmware between. */
+/*
+ * The parts of the example: what the board gives, what stands at its pins, and the firmware
+ * between.
+ */
 #ifndef EXAMPLE_H
 #define EXAMPLE_H
 

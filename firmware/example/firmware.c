@@ -1,7 +1,7 @@
 /* SPDX-License-Identifier: Apache-2.0 */
 /*
- * An example: the device with image and memory in RAM, and a report of what maintenance would see. Where FRAM or a battery is
- * at hand, lend those to pins_begin instead.
+ * An example: the device with image and memory in RAM, and a report of what maintenance would see.
+ * Where FRAM or a battery is at hand, lend those to pins_begin instead.
  */
 #include "example.h"
 #include "fm3130.h"
@@ -41,7 +41,9 @@ static void put_flag(unsigned is_set, const char *name) {
 
 /* ---- the report */
 
-/* Registers 02h to 08h, which are BCD and so are read as they stand: seconds first, the year last. */
+/*
+ * Registers 02h to 08h, which are BCD and so are read as they stand: seconds first, the year last.
+ */
 static void put_calendar(const uint8_t *registers) {
     put_text("calendar ");
     put_hex(registers[4]);
@@ -89,8 +91,8 @@ void firmware_report(void) {
 /* ---- the loop */
 
 /*
- * The device has left the bus, and its line is released: see docs/CONTROLLER.md, "Refusals". Here it is said
- * and nothing more is done; a rig would also light a lamp of its own.
+ * The device has left the bus, and its line is released: see docs/CONTROLLER.md, "Refusals". Here
+ * it is said and nothing more is done; a rig would also light a lamp of its own.
  */
 static void stop(unsigned number) {
     put_text("THE DEVICE HAS LEFT THE BUS: number ");

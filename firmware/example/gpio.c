@@ -1,7 +1,7 @@
 /* SPDX-License-Identifier: Apache-2.0 */
 /*
- * The example on the pins of the board: SCL is pin 0 and SDA pin 1 of GPIO 0. This is compiled and linked with each
- * `make controller`, and was never run: the emulator has nothing at these pins.
+ * The example on the pins of the board: SCL is pin 0 and SDA pin 1 of GPIO 0. This is compiled and
+ * linked with each `make controller`, and was never run: the emulator has nothing at these pins.
  */
 #include "example.h"
 #include "pins.h"

@@ -1,7 +1,8 @@
 /* SPDX-License-Identifier: Apache-2.0 */
 /*
- * The example under the emulator, which has nothing at the board's pins: two bytes in memory are the wires, and a master
- * that pulls and releases them plays a short session. After each of its changes the firmware has a turn.
+ * The example under the emulator, which has nothing at the board's pins: two bytes in memory are
+ * the wires, and a master that pulls and releases them plays a short session. After each of its
+ * changes the firmware has a turn.
  */
 #include "example.h"
 #include "fm3130.h"
@@ -106,7 +107,10 @@ static void end(void) {
     __asm__ volatile("bkpt 0xab" : : "r"(operation), "r"(reason) : "memory");
 }
 
-/* Sets the clock, writes two lamps and waits; then a byte for a protected address, and a part that is not there. */
+/*
+ * Sets the clock, writes two lamps and waits; then a byte for a protected address, and a part that
+ * is not there.
+ */
 void run(void) {
     static const uint8_t runs[] = {0xD0, 0x01, 0x00}, set[] = {0xD0, 0x00, 0x02},
                          time[] = {0xD0, 0x02, 0x58, 0x59, 0x08, 0x07, 0x15, 0x11, 0x26},

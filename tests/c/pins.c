@@ -1,7 +1,7 @@
 /* SPDX-License-Identifier: Apache-2.0 */
 /*
- * firmware/pins.c with the archive of this machine: the sessions of tests/wires, which `make controller` plays on emulated
- * controllers with more ticks in them.
+ * firmware/pins.c with the archive of this machine: the sessions of tests/wires, which `make
+ * controller` plays on emulated controllers with more ticks in them.
  */
 #include "check.h"
 #include "wires.h"

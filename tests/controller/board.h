@@ -1,7 +1,8 @@
 /* SPDX-License-Identifier: Apache-2.0 */
 /*
- * What the emulated boards give to the test programs: words to the person who runs them, files of his,
- * and a count of the instructions done. One of m4.c, m0.c and riscv32.c is linked, with support.c.
+ * What the emulated boards give to the test programs: words to the person who runs them, files of
+ * his, and a count of the instructions done. One of m4.c, m0.c and riscv32.c is linked, with
+ * support.c.
  *
  * No program here divides: the Cortex-M0 has no instruction for it, and no library is linked.
  */
@@ -15,7 +16,10 @@
 /* One semihosting call: the emulator does it for the program. */
 uintptr_t board_call(uintptr_t operation, const void *argument);
 
-/* Makes the processor ready and the clock of board_ticks run; it is called first, before C's own memory is. */
+/*
+ * Makes the processor ready and the clock of board_ticks run; it is called first, before C's own
+ * memory is.
+ */
 void board_begin(void);
 
 /* The emulated clock, which goes on by the same span at every instruction. It wraps. */
@@ -46,7 +50,10 @@ void check_equal(const char *what, uint32_t is, uint32_t must_be);
 /* A call that is measured. */
 typedef uint32_t measurable(uint32_t argument);
 
-/* Makes a call and returns the bytes of stack that it wrote below its caller's: they were painted before. */
+/*
+ * Makes a call and returns the bytes of stack that it wrote below its caller's: they were painted
+ * before.
+ */
 uint32_t stack_of(measurable *measured, uint32_t argument);
 
 /* A file of the person who runs the emulator; reading past its end ends the program. */

@@ -1,7 +1,7 @@
 /* SPDX-License-Identifier: Apache-2.0 */
 /*
- * cost STRIDE: the instructions of firmware/pins.c, look by look, in the sessions of tests/wires. The board's four
- * functions are as short as can be here: a byte in memory stands for each pin.
+ * cost STRIDE: the instructions of firmware/pins.c, look by look, in the sessions of tests/wires.
+ * The board's four functions are as short as can be here: a byte in memory stands for each pin.
  */
 #include "../wires/wires.h"
 #include "board.h"

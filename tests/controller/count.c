@@ -1,7 +1,8 @@
 /* SPDX-License-Identifier: Apache-2.0 */
 /*
- * count FRAMES: the instructions and the stack of one call, over the frames of crates/standin, event by event through
- * fm3130_step; before each event fm3130_line too. What a call costs is what its caller pays: arguments, call and return.
+ * count FRAMES: the instructions and the stack of one call, over the frames of crates/standin,
+ * event by event through fm3130_step; before each event fm3130_line too. What a call costs is what
+ * its caller pays: arguments, call and return.
  */
 #include "board.h"
 #include "fm3130.h"
@@ -66,8 +67,8 @@ static enum kind kind_of(uint8_t event) {
 }
 
 /*
- * The step once more on the same state, to measure its stack. A step changes the image, and of the memory at most the byte at
- * the memory address: both are put back.
+ * The step once more on the same state, to measure its stack. A step changes the image, and of the
+ * memory at most the byte at the memory address: both are put back.
  */
 static void measure_stack(enum kind kind, uint8_t event) {
     static uint8_t kept[FM3130_IMAGE_BYTES];

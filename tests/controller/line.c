@@ -1,7 +1,8 @@
 /* SPDX-License-Identifier: Apache-2.0 */
 /*
- * line FRAMES: before each event of the frames, what fm3130_line says beside what Clocks on a copy of the device show: the
- * line of the next Clock, and of the one after it, if that is low and if it is high.
+ * line FRAMES: before each event of the frames, what fm3130_line says beside what Clocks on a copy
+ * of the device show: the line of the next Clock, and of the one after it, if that is low and if it
+ * is high.
  */
 #include "board.h"
 #include "fm3130.h"
@@ -25,8 +26,8 @@ static uint32_t address(void) {
 }
 
 /*
- * Whether the device pulls the line of the last of these Clocks. Image and memory are put back: a Clock stores at most one byte,
- * at the memory address that stood before it.
+ * Whether the device pulls the line of the last of these Clocks. Image and memory are put back: a
+ * Clock stores at most one byte, at the memory address that stood before it.
  */
 static uint32_t pulls(const uint8_t *clocks, unsigned count) {
     uint8_t kept[FM3130_IMAGE_BYTES], bytes[MOST_STORED];

@@ -1,7 +1,8 @@
 /* SPDX-License-Identifier: Apache-2.0 */
 /*
- * microbit: an nRF51 with a Cortex-M0, 256 KiB of flash and 16 KiB of RAM. Timer 0 counts at 16 MHz, every 62.5 ns; the emulator
- * is told that an instruction lasts 128 ns (-icount shift=7), so 256 ticks are 125 instructions.
+ * microbit: an nRF51 with a Cortex-M0, 256 KiB of flash and 16 KiB of RAM. Timer 0 counts at 16
+ * MHz, every 62.5 ns; the emulator is told that an instruction lasts 128 ns (-icount shift=7), so
+ * 256 ticks are 125 instructions.
  */
 #include "arm.h"
 

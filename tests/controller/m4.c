@@ -1,7 +1,8 @@
 /* SPDX-License-Identifier: Apache-2.0 */
 /*
- * mps2-an386: a Cortex-M4 with 4 MiB for code and 4 MiB for data. Timer 0 counts down at 25 MHz, every 40 ns; the emulator is
- * told that an instruction lasts 128 ns (-icount shift=7), so 16 ticks are 5 instructions.
+ * mps2-an386: a Cortex-M4 with 4 MiB for code and 4 MiB for data. Timer 0 counts down at 25 MHz,
+ * every 40 ns; the emulator is told that an instruction lasts 128 ns (-icount shift=7), so 16 ticks
+ * are 5 instructions.
  */
 #include "arm.h"
 
@@ -15,7 +16,10 @@ struct timer {
 
 enum { FLOATING_POINT = 0xF << 20 };
 
-/* GCC moves words through the registers of floating point, where a target has them: they must be on. */
+/*
+ * GCC moves words through the registers of floating point, where a target has them: they must be
+ * on.
+ */
 void board_begin(void) {
     ACCESS_CONTROL |= FLOATING_POINT;
     TIMER->reload = 0xFFFFFFFFu;

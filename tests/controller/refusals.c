@@ -1,7 +1,8 @@
 /* SPDX-License-Identifier: Apache-2.0 */
 /*
- * K12's exact run, and every refusal of the entries that a 32-bit caller uses, with untouched buffers. Lengths have
- * 64 bits on every target: one whose low 32 bits are right is refused all the same.
+ * K12's exact run, and every refusal of the entries that a 32-bit caller uses, with untouched
+ * buffers. Lengths have 64 bits on every target: one whose low 32 bits are right is refused all the
+ * same.
  */
 #include "board.h"
 #include "fm3130.h"

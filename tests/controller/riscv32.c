@@ -1,5 +1,8 @@
 /* SPDX-License-Identifier: Apache-2.0 */
-/* riscv32 virt: an RV32IMAC with its memory at 80000000h. Its own counter counts instructions (-icount shift=0). */
+/*
+ * riscv32 virt: an RV32IMAC with its memory at 80000000h. Its own counter counts instructions
+ * (-icount shift=0).
+ */
 #include "board.h"
 
 extern uint32_t top_of_stack[];

@@ -1,5 +1,8 @@
 /* SPDX-License-Identifier: Apache-2.0 */
-/* wires STRIDE STRIDE TIMES: the bit-banging master of tests/wires against firmware/pins.c, on the board. */
+/*
+ * wires STRIDE STRIDE TIMES: the bit-banging master of tests/wires against firmware/pins.c, on the
+ * board.
+ */
 #include "../wires/wires.h"
 #include "board.h"
 

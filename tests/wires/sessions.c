@@ -1,7 +1,8 @@
 /* SPDX-License-Identifier: Apache-2.0 */
 /*
- * What is played on the wires: a proving session with a tick at each of its places, the turn of a year in which a tick
- * changes the byte that is about to be read, pulses in which the master hangs, and what makes the device leave the bus.
+ * What is played on the wires: a proving session with a tick at each of its places, the turn of a
+ * year in which a tick changes the byte that is about to be read, pulses in which the master hangs,
+ * and what makes the device leave the bus.
  */
 #include "fm3130.h"
 #include "pins.h"
@@ -224,7 +225,7 @@ static uint32_t play_turn(enum pace pace, uint32_t tick_at) {
 
 typedef uint32_t session(enum pace pace, uint32_t tick_at);
 
-/* The session with a tick at place `first`, and at every so manieth from there. */
+/* The session with a tick at place `first`, and at every n-th from there. */
 static void play_at_places(session *play, enum pace pace, uint32_t first, uint32_t stride) {
     uint32_t places = play(pace, NEVER);
     for (uint32_t at = first; at < places; at += stride) {
@@ -278,7 +279,7 @@ static void hang_in_write(unsigned clocks, unsigned ticks, enum ending ending) {
     must_equal("the lamp after the hang", read_memory(LAMP, 0x00), ending == FALLS ? 0xFE : 0x01);
 }
 
-/* A read of 00h, whose eighth clock clears the flags that it showed. The device pulls no line of FFh: none is there. */
+/* A read of 00h, whose eighth clock clears the flags that it showed. */
 static void hang_in_read(unsigned clocks, unsigned ticks, enum ending ending) {
     begin_hang();
     due(FM3130_TICK);
@@ -290,7 +291,10 @@ static void hang_in_read(unsigned clocks, unsigned ticks, enum ending ending) {
     read_flags();
 }
 
-/* Ticks that find the first clock of the year's byte open: it is the old year, whole, and then the new one. */
+/*
+ * Ticks that find the first clock of the year's byte open: it is the old year, whole, and then the
+ * new one.
+ */
 static void hang_at_turn(unsigned ticks) {
     wires_begin(AFTER_EACH, NEVER);
     write_register(1, 0x00);
@@ -475,7 +479,10 @@ static void check_late_look(void) {
     check_left("a pulse that was nearly missed", PINS_LATE);
 }
 
-/* Begun again inside a read of 00h: with SCL low its bit is driven, with SCL high the pulse is not counted. */
+/*
+ * Begun again inside a read of a byte that is 0: with SCL low its bit is driven, with SCL high the
+ * pulse is not counted.
+ */
 static void check_begun_again(void) {
     wires_begin(AFTER_EACH, NEVER);
     begin_memory(LAMP, 0x00);

@@ -31,8 +31,8 @@ static struct pins pins;
 static uint8_t image[FM3130_IMAGE_BYTES], memory[FM3130_MEMORY_BYTES];
 
 /*
- * The reference. On a controller with 16 KiB it shares the memory: each byte is stored twice, by the device
- * and by the reference, and the master knows what it must read.
+ * The reference. On a controller with 16 KiB it shares the memory: each byte is stored twice, by
+ * the device and by the reference, and the master knows what it must read.
  */
 static uint8_t other_image[FM3130_IMAGE_BYTES];
 #ifdef WIRES_ONE_MEMORY
@@ -80,8 +80,9 @@ int pins_read_sda(void) {
 }
 
 /*
- * SDA is turned while SCL is low, but where the device leaves the bus. At the end of a pulse it is turned before the event is
- * done: the image is still that of the reference, which has not done it either.
+ * SDA is turned while SCL is low, but where the device leaves the bus. At the end of a pulse it is
+ * turned before the event is done: the image is still that of the reference, which has not done it
+ * either.
  */
 static void pull(uint8_t is_pulled) {
     pass();

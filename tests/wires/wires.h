@@ -1,11 +1,12 @@
 /* SPDX-License-Identifier: Apache-2.0 */
 /*
- * Two wires with a resistor each, a bit-banging master that knows only levels, and firmware/pins.c at the
- * other end. It runs on this machine (tests/c/pins.c) and on emulated controllers (tests/controller/wires.c).
+ * Two wires with a resistor each, a bit-banging master that knows only levels, and firmware/pins.c
+ * at the other end. It runs on this machine (tests/c/pins.c) and on emulated controllers
+ * (tests/controller/wires.c).
  *
- * Beside it goes a reference: another image, on which the events that the levels mean are done one by one.
- * The line of every Clock and, after every transfer, the image must be the reference's; and what the master
- * reads must be what it expects by itself.
+ * Beside it goes a reference: another image, on which the events that the levels mean are done one
+ * by one. The line of every Clock and, after every transfer, the image must be the reference's; and
+ * what the master reads must be what it expects by itself.
  */
 #ifndef WIRES_H
 #define WIRES_H
@@ -35,7 +36,9 @@ enum pace {
 /* No tick comes by itself. */
 #define NEVER 0xFFFFFFFFu
 
-/* Both wires released, a fresh device with a memory of zeros, and a tick that comes at this place. */
+/*
+ * Both wires released, a fresh device with a memory of zeros, and a tick that comes at this place.
+ */
 void wires_begin(enum pace pace, uint32_t tick_at);
 
 /* The master pulls a wire (0) or releases it (1), and the device looks. */
@@ -43,7 +46,7 @@ void set_scl(uint8_t level);
 void set_sda(uint8_t level);
 uint8_t sda_level(void);
 
-/* The same, but the device has not looked yet: the change comes at its so manieth reading. */
+/* The same, but the device has not looked yet: the change comes at its n-th reading. */
 void set_scl_at(uint8_t level, unsigned reading);
 
 /* A number from 0 to a mask of low bits, the same in each run. */
@@ -96,23 +99,31 @@ uint8_t master_sends(uint8_t byte);
 /* A byte from the device; `more` asks for another after it. */
 uint8_t master_reads(uint8_t more);
 
-/* The ticks of this session when the last byte was fixed or stored: at its first or eighth clock. */
+/*
+ * The ticks of this session when the last byte was fixed or stored: at its first or eighth clock.
+ */
 uint32_t ticks_at_byte(void);
 
 /* ---- sessions.c */
 
-/* The proving session with a tick at every so manieth place of it, in both paces. */
+/* The proving session with a tick at every n-th place of it, in both paces. */
 void play_session(uint32_t stride);
 
-/* The turn of a year, where a tick changes the byte that is read, with a tick at every so manieth place. */
+/*
+ * The turn of a year, where a tick changes the byte that is read, with a tick at every n-th
+ * place.
+ */
 void play_turn_of_year(uint32_t stride);
 
-/* Every pulse of a byte with up to four ticks in it, after which SCL falls or the master gives up. */
+/*
+ * Every pulse of a byte with up to four ticks in it, after which SCL falls or the master gives up.
+ */
 void play_hangs(void);
 
 /*
- * Begins a transfer of one kind or another and then turns the wires at random, with ticks and power events between, so many
- * times: a master that has gone mad, and the device still does what the levels mean.
+ * Begins a transfer of one kind or another and then turns the wires at random, with ticks and power
+ * events between, so many times: a master that has gone mad, and the device still does what the
+ * levels mean.
  */
 void play_noise(uint32_t times);
 
