@@ -1,6 +1,6 @@
 -- SPDX-License-Identifier: Apache-2.0
--- A clock's outcome by the phase that the bus is in, and an event's by its supply. Each law turns the case that a `match`
--- found into the definition at the matched value.
+-- A clock's outcome by the phase that the bus is in, and an event's by its supply. Each law turns the case that a
+-- `match` found into the definition at the matched value.
 -- Assumes nothing.
 use Prim.Native.Nat.{ℕ, _/_, _≤_, _<_}
 use mathlib.Core.Path.{_≡_, refl}
@@ -33,28 +33,28 @@ went-is p = λ i. p i .went
 pub memory-is : {r q : Went} {m n : List ℕ} → left r m ≡ left q n → m ≡ n
 memory-is p = λ i. p i .memory
 
-module _ (size guard : ℕ) (y : Reply) (u : Bus) (m : List ℕ) where
+module _ (size select guard : ℕ) (y : Reply) (u : Bus) (m : List ℕ) where
   pub at-phase : (high : Bool) {l : Left} {p q : Phase} → p ≡ q
-      → l ≡ clockedWith size guard y u m q high → l ≡ clockedWith size guard y u m p high
+      → l ≡ clockedWith size select guard y u m q high → l ≡ clockedWith size select guard y u m p high
   at-phase high e t = rw e t
 
   pub at-power : (x : Happening) {l : Left} {p q : Power} → p ≡ q
-      → l ≡ wentOn size guard y q x u m → l ≡ wentOn size guard y p x u m
+      → l ≡ wentOn size select guard y q x u m → l ≡ wentOn size select guard y p x u m
   at-power x e t = rw e t
 
   -- a Clock outside a transfer leaves the bus as it is
   idle-clocked : (p : Phase) (s : Cells) (d : Bool) → p ≡ Idle
-      → clocked (partOf size (hollow guard y)) p s tt d ≡ out (partOf size (hollow guard y)) p s tt d
+      → clocked (partOf size select (hollow guard y)) p s tt d ≡ out (partOf size select (hollow guard y)) p s tt d
   unfolding clocked
   idle-clocked p s d e = rw e
 
   pub idle-clock : (high : Bool) → u .phase ≡ Idle
-      → left (record { bus = u; line = high }) m ≡ clockedWith size guard y u m (u .phase) high
+      → left (record { bus = u; line = high }) m ≡ clockedWith size select guard y u m (u .phase) high
   idle-clock high e = rw (idle-clocked (u .phase) (lent m (u .address)) high e)
 
   -- the events that change nothing of the bus, by the supplies
   abbrev Same : Power → ℕ → Type 0
-  Same p e = left (record { bus = u; line = true }) m ≡ wentOn size guard y p (happening e) u m
+  Same p e = left (record { bus = u; line = true }) m ≡ wentOn size select guard y p (happening e) u m
 
   pub same-on : (e : ℕ) → e < 10 → (e / 2 ≡ 1 → ⊥) → (e ≡ 0 → ⊥) → (e ≡ 1 → ⊥) → (e ≡ 5 → ⊥) → (e ≡ 6 → ⊥) → Same On e
   unfolding happening eventOn

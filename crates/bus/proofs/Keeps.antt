@@ -1,6 +1,6 @@
 -- SPDX-License-Identifier: Apache-2.0
--- Every event keeps the limits, over any size and any companion that keeps its own: the bus events by the machine's theorem,
--- the others by cases on the supply.
+-- Every event keeps the limits, over any size and select and any companion that keeps its own: the bus events by the
+-- machine's theorem, the others by cases on the supply.
 --   BusLimits, bus-limits-of, of-bus-limits   the limits of a bus, one by one; from-zero: addresses from 0 on
 --   DeskKeeps                                 what is asked of a companion
 --   DoneOk, event-keeps                       the theorem
@@ -13,7 +13,6 @@ use native.Mathlib.Nat.{mod-lt}
 use lib.Dec.{ltb, leb, leb·zero}
 use lib.ListN.{length, length-set}
 use borrow.Author.Tests.{ltb-true, lt-ltb}
-use Rattle.wire.specs.Slave.{slaveNames}
 use Rattle.wire.specs.Limits.{phaseWithin}
 use Rattle.wire.specs.Memory.{Cells, lent, isProtected, refusedByte, putByte}
 use Rattle.wire.specs.Machine.{Line, line, step}
@@ -21,6 +20,7 @@ use Rattle.wire.proofs.Tests.{and-split, by-test}
 use Rattle.wire.proofs.Keeps.{PartKeeps, StateOk, step-keeps}
 use Rattle.bus.specs.Desk.{Desks, partOf}
 use Rattle.bus.specs.Event.{Happening, onWire, beat, lost, gone, returned, resting, powered, Done, eventOn}
+use Rattle.bus.specs.Select.{slaveNamesFor}
 use Rattle.bus.specs.Limits.{isBetween, powerWithin, busWithin}
 use Rattle.bus.specs.declared.Beat.{Beat}
 use Rattle.bus.specs.declared.Power.{Power}
@@ -31,20 +31,21 @@ use Rattle.bus.specs.declared.Bus.{Bus}
 pub from-zero : (last : ℕ) → isBetween 0 last ≡ (λ b. leb b last)
 from-zero last = λ i b. leb·zero b i && leb b last
 
-pub record BusLimits (size first last : ℕ) (u : Bus) : Type 0 where
+pub record BusLimits (size select first last : ℕ) (u : Bus) : Type 0 where
   pub address : u .address < size
-  pub phase : phaseWithin slaveNames (isBetween first last) (u .phase) ≡ true
+  pub phase : phaseWithin (slaveNamesFor select) (isBetween first last) (u .phase) ≡ true
   pub power : powerWithin (u .power) (u .phase) ≡ true
 
-module _ (size first last : ℕ) where
-  pub bus-limits-of : (u : Bus) → busWithin size first last u ≡ true → BusLimits size first last u
+module _ (size select first last : ℕ) where
+  pub bus-limits-of : (u : Bus) → busWithin size select first last u ≡ true → BusLimits size select first last u
   unfolding busWithin
   bus-limits-of u e =
       let h = and-split _ (powerWithin (u .power) (u .phase)) e in
-      let g = and-split (ltb (u .address) size) (phaseWithin slaveNames (isBetween first last) (u .phase)) (h .0) in
+      let g = and-split (ltb (u .address) size) (phaseWithin (slaveNamesFor select) (isBetween first last) (u .phase))
+      (h .0) in
       record { address = ltb-true (u .address) size (g .0); phase = g .1; power = h .1 }
 
-  pub of-bus-limits : (u : Bus) → BusLimits size first last u → busWithin size first last u ≡ true
+  pub of-bus-limits : (u : Bus) → BusLimits size select first last u → busWithin size select first last u ≡ true
   unfolding busWithin
   of-bus-limits u l = rw (lt-ltb (u .address) size (l .address), l .phase, l .power)
 
@@ -64,7 +65,7 @@ record CellsOk (size : ℕ) (m : Cells) : Type 0 where
   bytes : length (m .bytes) ≡ size
   address : m .address < size
 
-module _ (size first last : ℕ) (z : 0 < size) (D : Desks) (K : DeskKeeps first last D) where
+module _ (size select first last : ℕ) (z : 0 < size) (D : Desks) (K : DeskKeeps first last D) where
   put-ok : (g : ℕ) (m : Cells) (b : ℕ) → b < 256 → CellsOk size m → CellsOk size (putByte size g m b .next)
   unfolding putByte refusedByte
   put-ok g m b h o =
@@ -73,7 +74,7 @@ module _ (size first last : ℕ) (z : 0 < size) (D : Desks) (K : DeskKeeps first
       (λ e. rw e
       (record { bytes = length-set (m .bytes) (m .address) b ∙ o .bytes; address = mod-lt (m .address + 1) z }))
 
-  part-keeps : PartKeeps (partOf size D)
+  part-keeps : PartKeeps (partOf size select D)
   part-keeps =
       record {
         CellsOk = CellsOk size;
@@ -89,27 +90,37 @@ module _ (size first last : ℕ) (z : 0 < size) (D : Desks) (K : DeskKeeps first
         ticked = K .ticked;
       }
 
-  pub record DoneOk (d : Done size D) : Type 0 where
-    pub bus : BusLimits size first last (d .bus)
+  pub record DoneOk (d : Done size select D) : Type 0 where
+    pub bus : BusLimits size select first last (d .bus)
     pub companion : K .Ok (d .companion)
     pub memory : length (d .memory) ≡ size
 
-  rest-ok : (p : Power) → BusLimits size first last (resting p)
+  rest-ok : (p : Power) → BusLimits size select first last (resting p)
   unfolding phaseWithin powerWithin
   rest-ok On = record { address = z; phase = refl; power = refl }
   rest-ok Backup = record { address = z; phase = refl; power = refl }
   rest-ok Off = record { address = z; phase = refl; power = refl }
 
-  module _ (u : Bus) (c : D .Desk) (m : List ℕ) (l : BusLimits size first last u) (o : K .Ok c) (h : length m ≡ size) where
-    powered-ok : BusLimits size first last (powered u)
+  module _ (u : Bus) (c : D .Desk) (m : List ℕ) (l : BusLimits size select first last u) (o : K .Ok c) (h : length m ≡
+      size) where
+    powered-ok : BusLimits size select first last (powered u)
     unfolding powerWithin
     powered-ok = record { address = l .address; phase = l .phase; power = refl }
 
-    line-ok : (x : Line) → DoneOk (eventOn size D On (onWire x) u c m)
+    line-ok : (x : Line) → DoneOk (eventOn size select D On (onWire x) u c m)
     unfolding eventOn powerWithin part-keeps
     line-ok x =
-        let k : StateOk (partOf size D) part-keeps (step (partOf size D) (record { phase = u .phase; memory = lent m (u .address); companion = c }) (line x) .state) =
-        step-keeps (partOf size D) part-keeps (record { phase = u .phase; memory = lent m (u .address); companion = c }) (line x)
+        let k : StateOk (partOf size select D) part-keeps (step (partOf size select D) (record {
+          phase = u .phase;
+          memory = lent m (u .address);
+          companion = c;
+        }) (line x) .state) =
+        step-keeps (partOf size select D) part-keeps (record {
+          phase = u .phase;
+          memory = lent m (u .address);
+          companion
+              = c;
+        }) (line x)
         (record { phase = l .phase; memory = record { bytes = h; address = l .address }; companion = o }) in
         record {
           bus = record { address = k .memory .address; phase = k .phase; power = refl };
@@ -117,7 +128,7 @@ module _ (size first last : ℕ) (z : 0 < size) (D : Desks) (K : DeskKeeps first
           memory = k .memory .bytes;
         }
 
-    pub event-keeps : (p : Power) (x : Happening) → DoneOk (eventOn size D p x u c m)
+    pub event-keeps : (p : Power) (x : Happening) → DoneOk (eventOn size select D p x u c m)
     unfolding eventOn
     event-keeps On (onWire x) = line-ok x
     event-keeps On (beat t) = record { bus = l; companion = K .ticked t c o; memory = h }

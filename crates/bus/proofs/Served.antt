@@ -1,6 +1,6 @@
 -- SPDX-License-Identifier: Apache-2.0
--- What each thing that is asked of a companion leaves in a relation to it, every event does: the companion after an event is
--- the companion once it did what was asked (`split`).
+-- What each thing that is asked of a companion leaves in a relation to it, every event does: the companion after an
+-- event is the companion once it did what was asked (`split`).
 -- Assumes nothing.
 use Prim.Native.Nat.{ℕ}
 use mathlib.Core.Path.{ap, sym, subst}
@@ -37,8 +37,8 @@ module _ (D : Desks) (Rel : D .Desk → Type 0) (c : D .Desk) (A : AllLeave D Re
   served-leaves deed.Lost = A .lost
   served-leaves deed.Returned = A .returned
 
-  pub event-leaves : (size : ℕ) (u : Bus) (m : List ℕ) (p : Power) (x : Happening)
-      → Rel (eventOn size D p x u c m .companion)
-  event-leaves size u m p x =
-      subst Rel (sym (ap (λ (d : Done size D). d .companion) (split size D u c m p x)))
+  pub event-leaves : (size select : ℕ) (u : Bus) (m : List ℕ) (p : Power) (x : Happening)
+      → Rel (eventOn size select D p x u c m .companion)
+  event-leaves size select u m p x =
+      subst Rel (sym (ap (λ (d : Done size select D). d .companion) (split size select D u c m p x)))
       (served-leaves (deedOf p (u .phase) x))

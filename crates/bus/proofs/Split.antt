@@ -1,6 +1,7 @@
 -- SPDX-License-Identifier: Apache-2.0
--- An event of a part is what it asks of the companion, and the event of the same part with a hollow companion that gives the
--- companion's reply. So the code of every part but its companion is that of `Bus`. By cases on supply, event, phase and clock.
+-- An event of a part is what it asks of the companion, and the event of the same part with a hollow companion that
+-- gives the companion's reply. So the code of every part but its companion is that of `Bus`. By cases on supply, event,
+-- phase and clock.
 -- Assumes nothing.
 use Prim.Native.Nat.{ℕ}
 use mathlib.Core.Path.{_≡_, refl}
@@ -25,14 +26,14 @@ use Rattle.bus.specs.declared.Bus.{Bus}
 use Rattle.bus.specs.declared.Deed.{Deed}
 use Rattle.bus.specs.declared.Deed.the-variants as deed
 
-module _ (size : ℕ) (D : Desks) where
+module _ (size select : ℕ) (D : Desks) where
   -- what the bus did, with the companion put back
-  abbrev pub joined : Left → D .Desk → Done size D
+  abbrev pub joined : Left → D .Desk → Done size select D
   joined l c = record { bus = l .went .bus; companion = c; memory = l .memory; line = l .went .line }
 
-  abbrev pub splitOf : Power → Happening → Deed → Bus → D .Desk → List ℕ → Done size D
+  abbrev pub splitOf : Power → Happening → Deed → Bus → D .Desk → List ℕ → Done size select D
   splitOf p x q u c m =
-      let s = servedOf D q c in joined (outcome.wentOn size (D .guard c) (s .reply) p x u m) (s .next)
+      let s = servedOf D q c in joined (outcome.wentOn size select (D .guard c) (s .reply) p x u m) (s .next)
 
   module _ (u : Bus) (c : D .Desk) (m : List ℕ) where
     -- the three kinds of byte that serve the companion, at each clock
@@ -70,9 +71,10 @@ module _ (size : ℕ) (D : Desks) where
     load-split ack k b d = (refl, refl, refl)
 
     clock-split : (p : Phase) (d : Bool)
-        → doneOf size D (clocked (partOf size D) p (lent m (u .address)) c d)
+        → doneOf size select D (clocked (partOf size select D) p (lent m (u .address)) c d)
         ≡ (let s = servedOf D (clockDeed p d) c in
-        let o = doneOf size (hollow (D .guard c) (s .reply)) (clocked (partOf size (hollow (D .guard c) (s .reply))) p (lent m (u .address)) tt d) in
+        let o = doneOf size select (hollow (D .guard c) (s .reply)) (clocked (partOf size select (hollow (D .guard c)
+        (s .reply))) p (lent m (u .address)) tt d) in
         record { bus = o .bus; companion = s .next; memory = o .memory; line = o .line })
     unfolding clocked clockDeed
     clock-split Idle d = refl
@@ -107,13 +109,14 @@ module _ (size : ℕ) (D : Desks) where
         }
 
     line-split : (x : Line)
-        → eventOn size D On (onWire x) u c m ≡ splitOf On (onWire x) (lineDeed (u .phase) x) u c m
+        → eventOn size select D On (onWire x) u c m ≡ splitOf On (onWire x) (lineDeed (u .phase) x) u c m
     unfolding eventOn lined
     line-split start = refl
     line-split stop = refl
     line-split (clock d) = clock-split (u .phase) d
 
-    pub split : (p : Power) (x : Happening) → eventOn size D p x u c m ≡ splitOf p x (deedOf p (u .phase) x) u c m
+    pub split : (p : Power) (x : Happening) → eventOn size select D p x u c m ≡ splitOf p x (deedOf p (u .phase) x) u c
+        m
     unfolding eventOn deedOf
     split On (onWire x) = line-split x
     split On (beat t) = refl

@@ -1,13 +1,13 @@
 -- SPDX-License-Identifier: Apache-2.0
--- A part by its size and its companion: the memory is the same in all of them.
+-- A part by its size, its select bits and its companion: the memory is the same in all of them.
 --   Desks    what a companion does            partOf   the part, as the bus machine has it
 --   hollow   a companion that only replies: what is left of a part when its companion is taken out
 -- Assumes nothing.
 use Prim.Native.Nat.{ℕ}
-use Rattle.wire.specs.Slave.{slaveNames}
 use Rattle.wire.specs.Clock.{Taken}
 use Rattle.wire.specs.Memory.{Cells, pointed, putByte, byteAt, steppedOn}
 use Rattle.wire.specs.Machine.{Parts}
+use Rattle.bus.specs.Select.{slaveNamesFor}
 use Rattle.bus.specs.declared.Beat.{Beat}
 use Rattle.bus.specs.declared.Reply.{Reply}
 
@@ -27,15 +27,15 @@ pub record Desks : Type 1 where
   pub lost : Desk → Desk
   pub returned : Desk → Desk
 
-abbrev pub partOf : ℕ → Desks → Parts
-partOf size D =
+abbrev pub partOf : ℕ → ℕ → Desks → Parts
+partOf size select D =
     record {
       Tick = Beat;
       Guard = ℕ;
       Cells = Cells;
       Desk = D .Desk;
       Pin = ℕ;
-      names = slaveNames;
+      names = slaveNamesFor select;
       point = pointed size;
       put = putByte size;
       fetch = byteAt;

@@ -1,5 +1,6 @@
 -- SPDX-License-Identifier: Apache-2.0
--- One event on a part, by the supplies that are present (01, Event bytes; Ticks, alarm, power). Over size and companion.
+-- One event on a part, by the supplies that are present (01, Event bytes; Ticks, alarm, power). Over size and
+-- companion.
 --   Happening, happening          what an event byte says
 --   resting, powered              the bus after a loss of power; after main power returned
 --   Done, doneOf, eventOn, eventOf
@@ -23,8 +24,8 @@ pub data Happening : Type 0 where
   beat : Beat → Happening
   lost gone returned : Happening
 
--- "0 Start; 1 Stop; 2 Clock with the master's data line low; 3 Clock with it high; 4 one-second tick; 5 main power lost,
--- backup present; 6 main power lost, no backup; 7 main power returned"; 02, request 5: "8 and 9, are already
+-- "0 Start; 1 Stop; 2 Clock with the master's data line low; 3 Clock with it high; 4 one-second tick; 5 main power
+-- lost, backup present; 6 main power lost, no backup; 7 main power returned"; 02, number 5: "8 and 9, are already
 -- polarity-filtered edges on CNT1 and CNT2".
 unfoldable pub happening : ℕ → Happening
 happening e =
@@ -45,7 +46,7 @@ resting p = record { power = p; phase = Idle; address = 0 }
 abbrev pub powered : Bus → Bus
 powered u = record { power = On; phase = u .phase; address = u .address }
 
-module _ (size : ℕ) (D : Desks) where
+module _ (size select : ℕ) (D : Desks) where
   -- What an event leaves.
   pub record Done : Type 0 where
     pub bus : Bus
@@ -57,16 +58,16 @@ module _ (size : ℕ) (D : Desks) where
   done u c m d = record { bus = u; companion = c; memory = m; line = d }
 
   -- Of an event of the machine, which goes on only while main power is present.
-  abbrev pub doneOf : Out (partOf size D) → Done
+  abbrev pub doneOf : Out (partOf size select D) → Done
   doneOf o =
       done (record { power = On; phase = o .state .phase; address = o .state .memory .address }) (o .state .companion)
       (o .state .memory .bytes) (o .line)
 
-  -- Each event under each supply. "While off, bus events do nothing and a Clock's line is the master's. Event 6 while off
-  -- with backup takes the backup away; event 5 while off, or 6 when both supplies are already gone, changes nothing. Event 7
-  -- while on changes nothing."
+  -- Each event under each supply. "While off, bus events do nothing and a Clock's line is the master's. Event 6 while
+  -- off with backup takes the backup away; event 5 while off, or 6 when both supplies are already gone, changes
+  -- nothing. Event 7 while on changes nothing."
   unfoldable pub eventOn : Power → Happening → Bus → D .Desk → List ℕ → Done
-  eventOn On (onWire x) u c m = doneOf (lined (partOf size D) (u .phase) (lent m (u .address)) c x)
+  eventOn On (onWire x) u c m = doneOf (lined (partOf size select D) (u .phase) (lent m (u .address)) c x)
   eventOn On (beat t) u c m = done u (D .ticked t c) m true
   eventOn On lost u c m = done (resting Backup) (D .backed c) m true
   eventOn On gone u c m = done (resting Off) (D .lost c) m true

@@ -1,13 +1,14 @@
 -- SPDX-License-Identifier: Apache-2.0
--- The limits of all of a part but its companion, over the size and the companion's first and last address (01, Entries).
+-- The limits of all of a part but its companion, over the size and the companion's first and last address (01,
+-- Entries).
 -- Assumes nothing.
 use Prim.Native.Nat.{ℕ}
 use mathlib.Core.Bool.{Bool, true, false, _&&_}
 use lib.Dec.{ltb, leb}
-use Rattle.wire.specs.Slave.{slaveNames}
 use Rattle.wire.specs.Limits.{phaseWithin}
 use Rattle.wire.specs.declared.Phase.{Phase}
 use Rattle.wire.specs.declared.Phase.the-variants.{Idle, Slave, AddressHigh, AddressLow, Pointer, Write, Read}
+use Rattle.bus.specs.Select.{slaveNamesFor}
 use Rattle.bus.specs.declared.Power.{Power}
 use Rattle.bus.specs.declared.Power.the-variants.{On, Backup, Off}
 use Rattle.bus.specs.declared.Bus.{Bus}
@@ -32,6 +33,7 @@ powerWithin Backup p = isIdle p
 powerWithin Off p = isIdle p
 
 -- "A memory address below that size"; "clocks within a byte 0 to 8".
-unfoldable pub busWithin : ℕ → ℕ → ℕ → Bus → Bool
-busWithin size first last u =
-    ltb (u .address) size && phaseWithin slaveNames (isBetween first last) (u .phase) && powerWithin (u .power) (u .phase)
+unfoldable pub busWithin : ℕ → ℕ → ℕ → ℕ → Bus → Bool
+busWithin size select first last u =
+    ltb (u .address) size && phaseWithin (slaveNamesFor select) (isBetween first last) (u .phase) && powerWithin
+    (u .power) (u .phase)

@@ -40,9 +40,9 @@ pub record Left : Type 0 where
 abbrev pub left : Went → List ℕ → Left
 left r m = record { went = r; memory = m }
 
-module _ (size guard : ℕ) (r : Reply) where
+module _ (size select guard : ℕ) (r : Reply) where
   -- A Clock, by phase, with the bus's own power.
-  abbrev pub powerKept : Bus → Out (partOf size (hollow guard r)) → Left
+  abbrev pub powerKept : Bus → Out (partOf size select (hollow guard r)) → Left
   powerKept u o =
       left
       (record {
@@ -52,14 +52,14 @@ module _ (size guard : ℕ) (r : Reply) where
       (o .state .memory .bytes)
 
   abbrev pub clockedWith : Bus → List ℕ → Phase → Bool → Left
-  clockedWith u m p d = powerKept u (clocked (partOf size (hollow guard r)) p (lent m (u .address)) tt d)
+  clockedWith u m p d = powerKept u (clocked (partOf size select (hollow guard r)) p (lent m (u .address)) tt d)
 
   -- An event, with its companion taken out.
-  abbrev pub leftOf : Done size (hollow guard r) → Left
+  abbrev pub leftOf : Done size select (hollow guard r) → Left
   leftOf o = left (record { bus = o .bus; line = o .line }) (o .memory)
 
   abbrev pub wentOn : Power → Happening → Bus → List ℕ → Left
-  wentOn p x u m = leftOf (eventOn size (hollow guard r) p x u tt m)
+  wentOn p x u m = leftOf (eventOn size select (hollow guard r) p x u tt m)
 
   abbrev pub wentOf : Bus → List ℕ → ℕ → Left
-  wentOf u m e = leftOf (eventOf size (hollow guard r) u tt m e)
+  wentOf u m e = leftOf (eventOf size select (hollow guard r) u tt m e)

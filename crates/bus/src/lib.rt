@@ -1,12 +1,13 @@
 // SPDX-License-Identifier: Apache-2.0
 // All of a part but its companion: which supplies are present, where a transfer stands, the memory address; what each event
-// does to these, and what it asks of the companion. A part hands over the size of its memory, the protection bits, and the
-// companion's reply to what was asked.
+// does to these, and what it asks of the companion. A part hands over the size of its memory, its select bits, the
+// protection bits, and the companion's reply to what was asked.
 //
 // turns    the clocks of the bytes that serve the companion, given its reply
 // clock    a Clock by phase
 // event    one event under each supply
 // asks     what an event asks of the companion
+// select   the slave byte of a part with select bits
 // limits   which buses are well-formed
 use wire::Phase;
 
@@ -14,6 +15,7 @@ mod asks;
 mod clock;
 mod event;
 pub mod limits;
+pub mod select;
 mod turns;
 
 // Which supplies are present: main power; backup alone; none.

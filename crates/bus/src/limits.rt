@@ -2,16 +2,16 @@
 // Which buses are well-formed, over the size and the companion's first and last address.
 ghost use mathlib.Core.Path.{_≡_};
 ghost use Prim.Native.Nat.{ℕ};
-ghost use Rattle.wire.specs.Slave.{slaveNames};
 ghost use Rattle.wire.specs.Limits.{bitsFit, phaseWithin};
 ghost use Rattle.wire.specs.declared.Phase.the-variants.{Slave, Pointer, Read};
+ghost use Rattle.bus.specs.Select.{slaveNamesFor};
 ghost use Rattle.bus.specs.Limits.{isBetween, isIdle, powerWithin, busWithin};
 use crate::Bus;
 use crate::Power;
+use crate::select::names_for;
 use wire::Phase;
 use wire::Side;
 use wire::slave::answers;
-use wire::slave::slave_names;
 
 // Of a byte that comes in, only the bits of the clocks done can be set.
 fn bits_fit(clocks: u8, byte: u8) -> bool
@@ -32,19 +32,19 @@ fn bits_fit(clocks: u8, byte: u8) -> bool
 }
 
 // A slave byte that waits for its acknowledge names somebody.
-fn slave_within(clocks: u8, byte: u8) -> bool
-    ensures { λ r. ⌜ ((first last : ℕ) → r ≡ phaseWithin slaveNames (isBetween first last) (Slave clocks byte)) ⌝ }
+fn slave_within(select: u8, clocks: u8, byte: u8) -> bool
+    ensures { λ r. ⌜ ((first last : ℕ) → r ≡ phaseWithin (slaveNamesFor select) (isBetween first last) (Slave clocks byte)) ⌝ }
 {
     let fit = bits_fit(clocks, byte);
     if clocks == 8 {
-        return fit & answers(slave_names(byte));
+        return fit & answers(names_for(select, byte));
     }
     fit
 }
 
 // A companion address byte that waits for its acknowledge is a register's.
-fn pointer_within(first: u8, last: u8, clocks: u8, byte: u8) -> bool
-    ensures { λ r. ⌜ r ≡ phaseWithin slaveNames (isBetween first last) (Pointer clocks byte) ⌝ }
+fn pointer_within(select: u8, first: u8, last: u8, clocks: u8, byte: u8) -> bool
+    ensures { λ r. ⌜ r ≡ phaseWithin (slaveNamesFor select) (isBetween first last) (Pointer clocks byte) ⌝ }
 {
     let fit = bits_fit(clocks, byte);
     if clocks == 8 {
@@ -54,8 +54,8 @@ fn pointer_within(first: u8, last: u8, clocks: u8, byte: u8) -> bool
 }
 
 // A byte that goes out is 0 before its first clock.
-fn read_within(side: Side, clocks: u8, byte: u8) -> bool
-    ensures { λ r. ⌜ ((first last : ℕ) → r ≡ phaseWithin slaveNames (isBetween first last) (Read side clocks byte)) ⌝ }
+fn read_within(select: u8, side: Side, clocks: u8, byte: u8) -> bool
+    ensures { λ r. ⌜ ((first last : ℕ) → r ≡ phaseWithin (slaveNamesFor select) (isBetween first last) (Read side clocks byte)) ⌝ }
 {
     if clocks == 0 {
         return byte == 0;
@@ -64,25 +64,25 @@ fn read_within(side: Side, clocks: u8, byte: u8) -> bool
 }
 
 // The limits of each phase.
-pub fn phase_within(first: u8, last: u8, phase: Phase) -> bool
-    ensures { λ r. ⌜ r ≡ phaseWithin slaveNames (isBetween first last) phase ⌝ }
+pub fn phase_within(select: u8, first: u8, last: u8, phase: Phase) -> bool
+    ensures { λ r. ⌜ r ≡ phaseWithin (slaveNamesFor select) (isBetween first last) phase ⌝ }
 {
     match phase {
         Phase::Idle => true,
-        Phase::Slave { clocks, byte } => slave_within(clocks, byte),
+        Phase::Slave { clocks, byte } => slave_within(select, clocks, byte),
         Phase::AddressHigh { clocks, byte } => bits_fit(clocks, byte),
         Phase::AddressLow {
             high: _,
             clocks,
             byte,
         } => bits_fit(clocks, byte),
-        Phase::Pointer { clocks, byte } => pointer_within(first, last, clocks, byte),
+        Phase::Pointer { clocks, byte } => pointer_within(select, first, last, clocks, byte),
         Phase::Write {
             side: _,
             clocks,
             byte,
         } => bits_fit(clocks, byte),
-        Phase::Read { side, clocks, byte } => read_within(side, clocks, byte),
+        Phase::Read { side, clocks, byte } => read_within(select, side, clocks, byte),
     }
 }
 
@@ -126,11 +126,13 @@ pub fn power_within(power: Power, phase: Phase) -> bool
 
 impl Bus {
     // Whether a bus is within the limits of a part of this size, whose companion has these addresses.
-    pub fn is_within(self, size: u16, first: u8, last: u8) -> bool
-        ensures { λ r. ⌜ r ≡ busWithin size first last self ⌝ }
+    pub fn is_within(self, size: u16, select: u8, first: u8, last: u8) -> bool
+        ensures { λ r. ⌜ r ≡ busWithin size select first last self ⌝ }
     {
         let power = self.power;
         let phase = self.phase;
-        (self.address < size) & phase_within(first, last, phase) & power_within(power, phase)
+        (self.address < size)
+            & phase_within(select, first, last, phase)
+            & power_within(power, phase)
     }
 }

@@ -17,7 +17,7 @@ impl State {
         let companion = self.companion;
         (self.address < MEMORY_SIZE)
             & companion.is_within()
-            & phase_within(0, LAST, phase)
+            & phase_within(0, 0, LAST, phase)
             & power_within(power, phase)
     }
 }

@@ -17,22 +17,22 @@ use Rattle.family.specs.Step.{servedOf, answerByte, AnsweredWith}
 use Rattle.family.specs.declared.State.{State}
 use Rattle.family.specs.declared.Served.{Served}
 
-pub advanced : (size : ℕ) (s : State) (m m′ : List ℕ) (e g : ℕ) (q : Deed) (v : Served) (w : Went) (a : ℕ)
+pub advanced : (size select : ℕ) (s : State) (m m′ : List ℕ) (e g : ℕ) (q : Deed) (v : Served) (w : Went) (a : ℕ)
     → g ≡ guardOf (s .counters) → q ≡ deedOf (s .bus .power) (s .bus .phase) (happening e)
     → v ≡ servedOf (Serve.servedOf companion31 q (s .counters))
-    → left w m′ ≡ wentOf size g (v .reply) (s .bus) m e → a ≡ answerByte (w .line)
-    → AnsweredWith size (record { state = record { bus = w .bus; counters = v .counters }; answer = a }) m′
-    (eventOf size s m e)
-advanced size s m m′ e g q v w a hg hq hv hw ha =
+    → left w m′ ≡ wentOf size select g (v .reply) (s .bus) m e → a ≡ answerByte (w .line)
+    → AnsweredWith size select (record { state = record { bus = w .bus; counters = v .counters }; answer = a }) m′
+    (eventOf size select s m e)
+advanced size select s m m′ e g q v w a hg hq hv hw ha =
     let c = s .counters in
     let u = s .bus in
     let v′ : v ≡ servedOf (Serve.servedOf companion31 (deedOf (u .power) (u .phase) (happening e)) c) =
     hv ∙ ap (λ (q : Deed). servedOf (Serve.servedOf companion31 q c)) hq in
     let w′ =
-    (hw ∙ ap (λ (g : ℕ). wentOf size g (v .reply) u m e) hg)
-    ∙ ap (λ (z : Served). wentOf size (guardOf c) (z .reply) u m e) v′ in
+    (hw ∙ ap (λ (g : ℕ). wentOf size select g (v .reply) u m e) hg)
+    ∙ ap (λ (z : Served). wentOf size select (guardOf c) (z .reply) u m e) v′ in
     let a′ = ha ∙ ap (λ (l : Left). answerByte (l .went .line)) w′ in
-    rw (split size companion31 u c m (u .power) (happening e))
+    rw (split size select companion31 u c m (u .power) (happening e))
     (record {
       result = λ i. record { state = record { bus = w′ i .went .bus; counters = v′ i .counters }; answer = a′ i };
       memory = λ i. w′ i .memory;

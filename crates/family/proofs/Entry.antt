@@ -31,49 +31,51 @@ use Rattle.family.specs.declared.Size.the-variants.{Kb64, Kb256}
 use Rattle.family.specs.declared.State.{State}
 use Rattle.family.specs.declared.Stepped.{Stepped}
 
-pub record Limits (size : ℕ) (s : State) : Type 0 where
-  pub bus : BusLimits size FIRST LAST (s .bus)
+pub record Limits (size select : ℕ) (s : State) : Type 0 where
+  pub bus : BusLimits size select FIRST LAST (s .bus)
   pub counters : isWithin (s .counters) ≡ true
 
-pub limits-of : (size : ℕ) (s : State) → wellFormed size s ≡ true → Limits size s
+pub limits-of : (size select : ℕ) (s : State) → wellFormed size select s ≡ true → Limits size select s
 unfolding wellFormed
-limits-of size s e =
-    let h = and-split (busWithin size FIRST LAST (s .bus)) (isWithin (s .counters)) e in
-    record { bus = bus-limits-of size FIRST LAST (s .bus) (h .0); counters = h .1 }
+limits-of size select s e =
+    let h = and-split (busWithin size select FIRST LAST (s .bus)) (isWithin (s .counters)) e in
+    record { bus = bus-limits-of size select FIRST LAST (s .bus) (h .0); counters = h .1 }
 
-pub of-limits : (size : ℕ) (s : State) → Limits size s → wellFormed size s ≡ true
+pub of-limits : (size select : ℕ) (s : State) → Limits size select s → wellFormed size select s ≡ true
 unfolding wellFormed
-of-limits size s l = and-join _ _ (of-bus-limits size FIRST LAST (s .bus) (l .bus)) (l .counters)
+of-limits size select s l = and-join _ _ (of-bus-limits size select FIRST LAST (s .bus) (l .bus)) (l .counters)
 
 -- the fresh state is well-formed at every size
-pub fresh-well-formed : (size : ℕ) → 0 < size → wellFormed size fresh ≡ true
+pub fresh-well-formed : (size select : ℕ) → 0 < size → wellFormed size select fresh ≡ true
 unfolding phaseWithin powerWithin
-fresh-well-formed size z =
-    of-limits size fresh
+fresh-well-formed size select z =
+    of-limits size select fresh
     (record { bus = record { address = z; phase = refl; power = refl }; counters = blank-within })
 
-pub ready : (size : ℕ) (s : State) (m : List ℕ) → length m ≡ size → wellFormed size s ≡ true → Ready size s m
-ready size s m h w =
-    let l = limits-of size s w in
+pub ready : (size select : ℕ) (s : State) (m : List ℕ) → length m ≡ size → wellFormed size select s ≡ true → Ready size
+    s m
+ready size select s m h w =
+    let l = limits-of size select s w in
     let c = within-facts (s .counters) (l .counters) in
     record { memory = h; address = l .bus .address; least = c .least; most = c .most }
 
-module _ (size : ℕ) (s : State) (m : List ℕ) (e : ℕ) where
-  pub step-wrong-memory : (length m ≡ size → ⊥) → stepOf size s m e ≡ refused wrongMemory s m
+module _ (size select : ℕ) (s : State) (m : List ℕ) (e : ℕ) where
+  pub step-wrong-memory : (length m ≡ size → ⊥) → stepOf size select s m e ≡ refused wrongMemory s m
   unfolding stepOf
   step-wrong-memory h = rw (ne-eqb (length m) size h)
 
-  pub step-wrong-state : length m ≡ size → wellFormed size s ≡ false → stepOf size s m e ≡ refused wrongState s m
+  pub step-wrong-state : length m ≡ size → wellFormed size select s ≡ false → stepOf size select s m e ≡ refused
+      wrongState s m
   unfolding stepOf
   step-wrong-state h w = rw (eq-eqb (length m) size h, w)
 
-  pub step-unknown-event : length m ≡ size → wellFormed size s ≡ true → lastEvent < e
-      → stepOf size s m e ≡ refused unknownEvent s m
+  pub step-unknown-event : length m ≡ size → wellFormed size select s ≡ true → lastEvent < e
+      → stepOf size select s m e ≡ refused unknownEvent s m
   unfolding stepOf
   step-unknown-event h w l = rw (eq-eqb (length m) size h, w, lt-leb e lastEvent l)
 
-  pub step-answered : length m ≡ size → wellFormed size s ≡ true → e ≤ lastEvent
-      → stepOf size s m e ≡ answered (eventOf size s m e)
+  pub step-answered : length m ≡ size → wellFormed size select s ≡ true → e ≤ lastEvent
+      → stepOf size select s m e ≡ answered (eventOf size select s m e)
   unfolding stepOf
   step-answered h w l = rw (eq-eqb (length m) size h, w, le-leb e lastEvent l)
 
@@ -98,27 +100,29 @@ keeps =
     }
 
 -- every event keeps a well-formed state well-formed, and the memory's length
-pub record EventOk (size : ℕ) (s : State) (m : List ℕ) (e : ℕ) : Type 0 where
-  pub state : wellFormed size (stateOf (eventOf size s m e)) ≡ true
-  pub memory : length (eventOf size s m e .memory) ≡ size
+pub record EventOk (size select : ℕ) (s : State) (m : List ℕ) (e : ℕ) : Type 0 where
+  pub state : wellFormed size select (stateOf (eventOf size select s m e)) ≡ true
+  pub memory : length (eventOf size select s m e .memory) ≡ size
 
-pub event-ok : (size : ℕ) → 0 < size → (s : State) (m : List ℕ) (e : ℕ) → wellFormed size s ≡ true → length m ≡ size
-    → EventOk size s m e
+pub event-ok : (size select : ℕ) → 0 < size → (s : State) (m : List ℕ) (e : ℕ) → wellFormed size select s ≡ true →
+    length m ≡ size
+    → EventOk size select s m e
 unfolding keeps
-event-ok size z s m e w h =
-    let l = limits-of size s w in
-    let k : DoneOk size FIRST LAST z companion31 keeps (eventOf size s m e) =
-    event-keeps size FIRST LAST z companion31 keeps (s .bus) (s .counters) m (l .bus) (l .counters) h (s .bus .power)
+event-ok size select z s m e w h =
+    let l = limits-of size select s w in
+    let k : DoneOk size select FIRST LAST z companion31 keeps (eventOf size select s m e) =
+    event-keeps size select FIRST LAST z companion31 keeps (s .bus) (s .counters) m (l .bus) (l .counters) h (s
+    .bus .power)
     (happening e) in
-    record { state = of-limits size _ (record { bus = k .bus; counters = k .companion }); memory = k .memory }
+    record { state = of-limits size select _ (record { bus = k .bus; counters = k .companion }); memory = k .memory }
 
 pub size-positive : (k : Size) → 0 < sizeOf k
 size-positive Kb64 = lit< tt
 size-positive Kb256 = lit< tt
 
 -- no second outcome satisfies the contract
-pub step-unique : (k : Size) (s : State) (m : List ℕ) (e : ℕ) (r r₂ : Stepped) (m′ m₂ : List ℕ)
-    → StepSettled k s m e r m′ → StepSettled k s m e r₂ m₂ → (r ≡ r₂) × (m′ ≡ m₂)
-step-unique k s m e r r₂ m′ m₂ p q =
+pub step-unique : (k : Size) (select : ℕ) (s : State) (m : List ℕ) (e : ℕ) (r r₂ : Stepped) (m′ m₂ : List ℕ)
+    → StepSettled k select s m e r m′ → StepSettled k select s m e r₂ m₂ → (r ≡ r₂) × (m′ ≡ m₂)
+step-unique k select s m e r r₂ m′ m₂ p q =
     let same = p ∙ sym q in
     (λ i. record { number = same i .number; state = same i .state; answer = same i .answer }, λ i. same i .memory)

@@ -38,10 +38,10 @@ module _ (c : Counters) (h : Locked c) where
         returned = returned-keeps c h;
       }
 
-pub event-keeps-serial : (size : ℕ) (s : State) (m : List ℕ) (e : ℕ) → Locked (s .counters)
-    → SerialKept (s .counters) (eventOf size s m e .companion)
-event-keeps-serial size s m e l =
-    event-leaves companion31 (SerialKept (s .counters)) (s .counters) (all-keep (s .counters) l) size (s .bus) m
+pub event-keeps-serial : (size select : ℕ) (s : State) (m : List ℕ) (e : ℕ) → Locked (s .counters)
+    → SerialKept (s .counters) (eventOf size select s m e .companion)
+event-keeps-serial size select s m e l =
+    event-leaves companion31 (SerialKept (s .counters)) (s .counters) (all-keep (s .counters) l) size select (s .bus) m
     (s .bus .power) (happening e)
 
 chained : (b c d : Counters) → SerialKept b c → SerialKept c d → SerialKept b d
@@ -49,8 +49,8 @@ chained b c d p q = record { locked = q .locked; serial = q .serial ∙ p .seria
 
 pub serial-locked : SerialLocked
 unfolding runOf
-serial-locked size s m [] l = record { locked = l; serial = refl }
-serial-locked size s m (e ∷ es) l =
-    let d = eventOf size s m e in
-    let k = event-keeps-serial size s m e l in
-    chained _ _ _ k (serial-locked size (stateOf d) (d .memory) es (k .locked))
+serial-locked size select s m [] l = record { locked = l; serial = refl }
+serial-locked size select s m (e ∷ es) l =
+    let d = eventOf size select s m e in
+    let k = event-keeps-serial size select s m e l in
+    chained _ _ _ k (serial-locked size select (stateOf d) (d .memory) es (k .locked))

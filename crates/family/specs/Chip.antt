@@ -1,6 +1,6 @@
 -- SPDX-License-Identifier: Apache-2.0
 -- The larger family as a part of the bus machine (02, number 5).
---   sizeOf                   "its 64Kb and 256Kb sizes"
+--   sizeOf, lone             "its 64Kb and 256Kb sizes"; the select bits of a device that is alone on its line
 --   takenOf, beaten          the companion's functions as the machine asks for them
 --   companion31              the companion
 --   Done, eventOf            one event on a state and the lent memory
@@ -28,6 +28,10 @@ use Rattle.family.specs.declared.State.{State}
 abbrev pub sizeOf : Size → ℕ
 sizeOf Kb64 = 8192
 sizeOf Kb256 = 32768
+
+-- Number 5 has one device: its slave bytes are those of 01, with select bits 00.
+abbrev pub lone : ℕ
+lone = 0
 
 -- Auxiliary: what the companion makes of a byte, as the machine asks for it.
 abbrev pub takenOf : Taken → Clock.Taken Counters
@@ -57,11 +61,11 @@ companion31 =
     }
 
 -- One event on a state and the lent memory.
-abbrev pub Done : ℕ → Type 0
-Done size = Event.Done size companion31
+abbrev pub Done : ℕ → ℕ → Type 0
+Done size select = Event.Done size select companion31
 
-abbrev pub eventOf : (size : ℕ) → State → List ℕ → ℕ → Done size
-eventOf size s m e = Event.eventOf size companion31 (s .bus) (s .counters) m e
+abbrev pub eventOf : (size select : ℕ) → State → List ℕ → ℕ → Done size select
+eventOf size select s m e = Event.eventOf size select companion31 (s .bus) (s .counters) m e
 
 -- "The companion address starts at 09h"; "a fresh device has 0 elsewhere".
 abbrev pub fresh : State

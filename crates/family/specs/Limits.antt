@@ -10,5 +10,5 @@ use Rattle.bus.specs.Limits.{busWithin}
 use Rattle.family.specs.declared.State.{State}
 
 -- Those of the bus, with the companion's first and last address, and those of the companion.
-unfoldable pub wellFormed : ℕ → State → Bool
-wellFormed size s = busWithin size FIRST LAST (s .bus) && isWithin (s .counters)
+unfoldable pub wellFormed : ℕ → ℕ → State → Bool
+wellFormed size select s = busWithin size select FIRST LAST (s .bus) && isWithin (s .counters)

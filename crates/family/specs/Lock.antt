@@ -8,8 +8,9 @@ use Rattle.counters.specs.Lock.{Locked, SerialKept}
 use Rattle.family.specs.Run.{runOf}
 use Rattle.family.specs.declared.State.{State}
 
--- At any size, from any state, within the limits or not, with any memory, after any list of bytes, events or not.
+-- At any size and select, from any state, within the limits or not, with any memory, after any list of bytes, events or
+-- not.
 abbrev pub SerialLocked : Type 0
 SerialLocked =
-    (size : ℕ) (s : State) (m es : List ℕ) → Locked (s .counters)
-    → SerialKept (s .counters) (runOf size s m es .state .counters)
+    (size select : ℕ) (s : State) (m es : List ℕ) → Locked (s .counters)
+    → SerialKept (s .counters) (runOf size select s m es .state .counters)

@@ -1,5 +1,5 @@
 -- SPDX-License-Identifier: Apache-2.0
--- A list of events over the size, one by one (01, Entries: "A second entry runs a list of events").
+-- A list of events over size and select, one by one (01, Entries: "A second entry runs a list of events").
 --   Ended, following   what a list leaves; the same after answers that were given before
 --   answerTo, runOf    the answer to an event; a list
 -- Assumes nothing.
@@ -20,11 +20,11 @@ abbrev pub following : List ℕ → Ended → Ended
 following before r = record { state = r .state; memory = r .memory; answers = before ++ r .answers }
 
 -- Auxiliary: the answer to an event.
-abbrev pub answerTo : {size : ℕ} → Done size → ℕ
+abbrev pub answerTo : {size select : ℕ} → Done size select → ℕ
 answerTo d = answerByte (d .line)
 
 -- The events one by one, each on the state and the memory that the one before it left.
-unfoldable pub runOf : ℕ → State → List ℕ → List ℕ → Ended
-runOf size s m [] = record { state = s; memory = m; answers = [] }
-runOf size s m (e ∷ es) =
-    let d = eventOf size s m e in following (answerTo d ∷ []) (runOf size (stateOf d) (d .memory) es)
+unfoldable pub runOf : ℕ → ℕ → State → List ℕ → List ℕ → Ended
+runOf size select s m [] = record { state = s; memory = m; answers = [] }
+runOf size select s m (e ∷ es) =
+    let d = eventOf size select s m e in following (answerTo d ∷ []) (runOf size select (stateOf d) (d .memory) es)

@@ -39,11 +39,11 @@ pub record Ready (size : ℕ) (s : State) (m : List ℕ) : Type 0 where
   pub most : s .counters .address ≤ LAST
 
 -- Auxiliary: the state that an event leaves.
-abbrev pub stateOf : {size : ℕ} → Done size → State
+abbrev pub stateOf : {size select : ℕ} → Done size select → State
 stateOf d = record { bus = d .bus; counters = d .companion }
 
 -- Auxiliary: what a function returns, and the memory it leaves, are those of an event.
-pub record AnsweredWith (size : ℕ) (r : Answered) (m : List ℕ) (d : Done size) : Type 0 where
+pub record AnsweredWith (size select : ℕ) (r : Answered) (m : List ℕ) (d : Done size select) : Type 0 where
   pub result : r ≡ record { state = stateOf d; answer = answerByte (d .line) }
   pub memory : m ≡ d .memory
 
@@ -65,18 +65,18 @@ refusal n s = record { number = n; state = s; answer = 1 }
 abbrev pub refused : ℕ → State → List ℕ → Step
 refused n s m = stepWith (refusal n s) m
 
-abbrev pub answered : {size : ℕ} → Done size → Step
+abbrev pub answered : {size select : ℕ} → Done size select → Step
 answered d = stepWith (record { number = accepted; state = stateOf d; answer = answerByte (d .line) }) (d .memory)
 
--- "Checked in the order of the numbers", over the size.
-unfoldable pub stepOf : ℕ → State → List ℕ → ℕ → Step
-stepOf size s m e =
+-- "Checked in the order of the numbers", over size and select.
+unfoldable pub stepOf : ℕ → ℕ → State → List ℕ → ℕ → Step
+stepOf size select s m e =
     cond (eqb (length m) size)
-    (cond (wellFormed size s)
-    (cond (leb e lastEvent) (answered (eventOf size s m e)) (refused unknownEvent s m))
+    (cond (wellFormed size select s)
+    (cond (leb e lastEvent) (answered (eventOf size select s m e)) (refused unknownEvent s m))
     (refused wrongState s m))
     (refused wrongMemory s m)
 
 -- The contract of `State::step`: what it returns and the memory it leaves are `stepOf` of what it was given.
-abbrev pub StepSettled : Size → State → List ℕ → ℕ → Stepped → List ℕ → Type 0
-StepSettled k s m e r m′ = stepWith r m′ ≡ stepOf (sizeOf k) s m e
+abbrev pub StepSettled : Size → ℕ → State → List ℕ → ℕ → Stepped → List ℕ → Type 0
+StepSettled k select s m e r m′ = stepWith r m′ ≡ stepOf (sizeOf k) select s m e

@@ -11,7 +11,7 @@ use counters::Counters;
 
 pub mod numbers;
 mod serve;
-mod step;
+pub mod step;
 
 // The bytes of memory of the 64Kb part.
 pub const KB64: u16 = 8192;
@@ -21,6 +21,9 @@ pub const KB256: u16 = 32768;
 
 // The last event byte: 9, an edge on CNT2.
 pub const LAST_EVENT: u8 = 9;
+
+// The select bits of a device that is alone on its line.
+pub const LONE: u8 = 0;
 
 // The two sizes.
 pub enum Size {

@@ -25,7 +25,7 @@ use counters::map::FIRST;
 use counters::map::LAST;
 
 // The bytes of memory of a size.
-fn size_of(size: Size) -> u16
+pub fn size_of(size: Size) -> u16
     ensures { λ r. ⌜ r ≡ sizeOf size ⌝ }
 {
     match size {
@@ -35,7 +35,7 @@ fn size_of(size: Size) -> u16
 }
 
 // The answer byte: the line alone.
-fn answer_byte(line: bool) -> u8
+pub fn answer_byte(line: bool) -> u8
     ensures { λ r. ⌜ r ≡ answerByte line ⌝ }
 {
     if line { 1 } else { 0 }
@@ -63,27 +63,27 @@ impl State {
         }
     }
 
-    // Whether the state is within the limits of a size.
-    pub fn is_well_formed(self, size: u16) -> bool
-        ensures { λ r. ⌜ r ≡ wellFormed size self ⌝ }
+    // Whether the state is within the limits of a size with these select bits.
+    pub fn is_well_formed(self, size: u16, select: u8) -> bool
+        ensures { λ r. ⌜ r ≡ wellFormed size select self ⌝ }
     {
         let bus = self.bus;
         let counters = self.counters;
-        bus.is_within(size, FIRST, LAST) & counters.is_within()
+        bus.is_within(size, select, FIRST, LAST) & counters.is_within()
     }
 
     // One event of the ten, with its answer byte: the companion does what it is asked, the bus does the rest.
-    pub fn advance(self, memory: &mut [u8], size: u16, event: u8) -> Answered
+    pub fn advance(self, memory: &mut [u8], size: u16, select: u8, event: u8) -> Answered
         requires { ⌜ Ready size self (now memory) ⌝ }
         requires { ⌜ event ≤ lastEvent ⌝ }
-        ensures { λ r. ⌜ AnsweredWith size r (now (memory .exit)) (eventOf size self (now (memory .entry)) event) ⌝ }
+        ensures { λ r. ⌜ AnsweredWith size select r (now (memory .exit)) (eventOf size select self (now (memory .entry)) event) ⌝ }
     {
         let bus = self.bus;
         let counters = self.counters;
         let guard = counters.guard();
         let served = serve(counters, bus.asks(event));
         let reply = served.reply;
-        let went = bus.happen(memory, size, guard, reply, event);
+        let went = bus.happen(memory, size, select, guard, reply, event);
         let next = went.bus;
         let companion = served.counters;
         let state = State {
@@ -97,16 +97,16 @@ impl State {
     }
 
     // The entry for one event: refused by the first number that fits, or done.
-    pub fn step(self, chosen: Size, memory: &mut [u8], event: u8) -> Stepped
-        ensures { λ r. ⌜ StepSettled chosen self (now (memory .entry)) event r (now (memory .exit)) ⌝ }
+    pub fn step(self, chosen: Size, select: u8, memory: &mut [u8], event: u8) -> Stepped
+        ensures { λ r. ⌜ StepSettled chosen select self (now (memory .entry)) event r (now (memory .exit)) ⌝ }
     {
         let size = size_of(chosen);
         if memory.len() != size as usize {
             return refused(WRONG_MEMORY, self);
         }
-        if self.is_well_formed(size) {
+        if self.is_well_formed(size, select) {
             if event <= LAST_EVENT {
-                let answered = self.advance(memory, size, event);
+                let answered = self.advance(memory, size, select, event);
                 let state = answered.state;
                 return Stepped {
                     number: ACCEPTED,

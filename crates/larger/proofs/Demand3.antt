@@ -7,25 +7,26 @@ use Rattle.counters.proofs.Guard.{aim-guard, loaded-guard}
 use Rattle.bus.specs.Desk.{partOf}
 use Rattle.merging.specs.Merge.{eventsOf}
 use Rattle.merging.specs.Demand.{OnlyWrites}
-use Rattle.family.specs.Chip.{companion31}
+use Rattle.family.specs.Chip.{lone, companion31}
 use Rattle.parts.specs.Demand3.{bytesOf}
 use Rattle.parts.proofs.Demand3 as parts
 use Rattle.larger.specs.Demand3.{held, DemandThree}
 use Rattle.larger.proofs.Lists.{run-held, answers-held}
 use Rattle.larger.proofs.Memory.{beaten-guard}
 
-pub only-writes : (size : ℕ) → OnlyWrites (partOf size companion31)
-only-writes size = record { tick-keeps = beaten-guard; address-keeps = aim-guard; read-keeps = loaded-guard }
+pub only-writes : (size select : ℕ) → OnlyWrites (partOf size select companion31)
+only-writes size select = record { tick-keeps = beaten-guard; address-keeps = aim-guard; read-keeps = loaded-guard }
 
 pub demand-three : (size : ℕ) → DemandThree size
 demand-three size s m xs ys l on idle wx wy merge steady =
-    let first = bytesOf size companion31 xs in
-    let second = bytesOf size companion31 ys in
-    let merged = bytesOf size companion31 (eventsOf l) in
+    let first = bytesOf size lone companion31 xs in
+    let second = bytesOf size lone companion31 ys in
+    let merged = bytesOf size lone companion31 (eventsOf l) in
     let f = run-held size s m first in
     let g = run-held size s m second in
     let h = run-held size s m merged in
-    let r = parts.demand-three size companion31 (only-writes size) (held size s m) xs ys l on idle wx wy merge steady in
+    let r = parts.demand-three size lone companion31 (only-writes size lone) (held size s m) xs ys l on idle wx wy merge
+    steady in
     record {
       memory = rw (h, f) at (r .memory);
       memory-address = rw (h, f) at (r .memory-address);

@@ -15,7 +15,7 @@ use Rattle.weights.specs.Weight.{has}
 use Rattle.counters.specs.Map.{SNL}
 use Rattle.counters.specs.declared.Serial.{Serial}
 use Rattle.family.specs.Numbers.{accepted, lastEvent}
-use Rattle.family.specs.Chip.{eventOf}
+use Rattle.family.specs.Chip.{lone, eventOf}
 use Rattle.family.specs.Run.{Ended, runOf, answerTo}
 use Rattle.family.specs.declared.State.{State}
 use Rattle.family.proofs.Lock.{serial-locked}
@@ -62,30 +62,30 @@ module _ (size : ℕ) where
 
   -- the lock, of what a run of events leaves
   run-locks : (s : State) (m es : List ℕ) → has (getD (imageOf s) 2 0) SNL ≡ true
-      → LockedIn size (imageOf s) (imageOf (runOf size s m es .state))
+      → LockedIn size (imageOf s) (imageOf (runOf size lone s m es .state))
   unfolding imageOf bytes
   run-locks s m es h =
-      let k = serial-locked size s m es h in record { lock = k .locked; serial = ap bytes (k .serial) }
+      let k = serial-locked size lone s m es h in record { lock = k .locked; serial = ap bytes (k .serial) }
 
   pub call-locks : CallLocks size
   call-locks i m es a h =
       let left : Outcome → Type 0 = λ o. LockedIn size i (o .image) in
       by-test (eqb (outcomeOf size i m es a .number) accepted)
       (λ t. let c = accepted-by size i m es a (eqb-true _ _ t) in
-      let w = image-decode size i (c .state) (c .image) .1 in
+      let w = image-decode size lone i (c .state) (c .image) .1 in
       let k = run-locks (c .state) m es (subst (λ (x : List ℕ). has (getD x 2 0) SNL ≡ true) (sym w) h) in
       subst left (sym (accepted-outcome size i m es a c))
-      (subst (λ (x : List ℕ). LockedIn size x (imageOf (runOf size (c .state) m es .state))) w k))
+      (subst (λ (x : List ℕ). LockedIn size x (imageOf (runOf size lone (c .state) m es .state))) w k))
       (λ t. subst left (sym (run-refused size i m es a (eqb-false _ _ t))) (record { lock = h; serial = refl }))
 
   -- the answer to a ninth clock at which the master leaves the line high tells whether the device pulls it low
   pulled : (s : State) (m es rest : List ℕ)
-      → getD (runOf size s m (es ++ (3 ∷ [])) .answers ++ rest) (length es) 0 % 2 ≡ 0
-      → eventOf size (runOf size s m es .state) (runOf size s m es .memory) 3 .line ≡ false
+      → getD (runOf size lone s m (es ++ (3 ∷ [])) .answers ++ rest) (length es) 0 % 2 ≡ 0
+      → eventOf size lone (runOf size lone s m es .state) (runOf size lone s m es .memory) 3 .line ≡ false
   unfolding runOf
   pulled s m es rest h =
-      let r = runOf size s m es in
-      let d = eventOf size (r .state) (r .memory) 3 in
+      let r = runOf size lone s m es in
+      let d = eventOf size lone (r .state) (r .memory) 3 in
       let q = ap (λ (x : Ended). getD (x .answers ++ rest) (length es) 0 % 2) (run-append size s m es (3 ∷ [])) in
       let p = answer-at (r .answers) (answerTo d) rest (length es) (sym (answers-length size s m es)) in
       line-low (d .line) (sym (ap (λ (n : ℕ). n % 2) p) ∙ (sym q ∙ h))
@@ -129,11 +129,12 @@ module _ (size : ℕ) where
 
   -- the state before the byte is the one that the image holds
   held-before : 0 < size → (i m before a : List ℕ) (c : Accepted size i m before a) (s : State)
-      → decodeOf size (outcomeOf size i m before a .image) ≡ Good s → runOf size (c .state) m before .state ≡ s
+      → decodeOf size lone (outcomeOf size i m before a .image) ≡ Good s → runOf size lone (c .state) m before .state ≡
+      s
   held-before z i m before a c s holds =
-      let o = run-ok size z (c .state) m before (image-decode size i (c .state) (c .image) .0) (c .memory) in
-      let b = ap (λ (x : Outcome). decodeOf size (x .image)) (accepted-outcome size i m before a c) in
-      good-is (sym (decode-image size _ (o .state)) ∙ (sym b ∙ holds))
+      let o = run-ok size z (c .state) m before (image-decode size lone i (c .state) (c .image) .0) (c .memory) in
+      let b = ap (λ (x : Outcome). decodeOf size lone (x .image)) (accepted-outcome size i m before a c) in
+      good-is (sym (decode-image size lone _ (o .state)) ∙ (sym b ∙ holds))
 
   pub call-stores : 0 < size → CallStores size
   unfolding before-accepted high-accepted
@@ -146,13 +147,16 @@ module _ (size : ℕ) where
       let g = accepted-outcome size i m (upToNinth before byte true) a (high-accepted i m before byte a d c) in
       let rest = drop (length (upToNinth before byte true)) a in
       let place = length (before ++ byte) in
-      let bit : getD (runOf size s₀ m ((before ++ byte) ++ (3 ∷ [])) .answers ++ rest) place 0 % 2 ≡ 0 =
-      ap (λ (x : List ℕ). getD (runOf size s₀ m x .answers ++ rest) place 0 % 2) (append-assoc before byte (3 ∷ []))
+      let bit : getD (runOf size lone s₀ m ((before ++ byte) ++ (3 ∷ [])) .answers ++ rest) place 0 % 2 ≡ 0 =
+      ap (λ (x : List ℕ). getD (runOf size lone s₀ m x .answers ++ rest) place 0 % 2) (append-assoc before byte (3 ∷
+      []))
       ∙ (sym (ap (λ (x : Outcome). getD (x .answers) place 0 % 2) g) ∙ low) in
-      let stored = acknowledged-stored size z s₀ m before byte w d (image-decode size i s₀ (c .image) .0) (c .memory)
+      let stored = acknowledged-stored size z s₀ m before byte w d (image-decode size lone i s₀ (c .image) .0)
+      (c .memory)
       (subst (λ (x : State). AtData (x .bus)) (sym k) start) r (pulled s₀ m (before ++ byte) rest bit) in
-      let ended = runOf size s₀ m all .memory in
-      let at = subst (λ (x : State). StoredAt (runOf size s₀ m before .memory) (x .bus .address) w ended) k stored in
+      let ended = runOf size lone s₀ m all .memory in
+      let at = subst (λ (x : State). StoredAt (runOf size lone s₀ m before .memory) (x .bus .address) w ended) k stored
+      in
       let first = sym (accepted-outcome size i m before a b) in
       let begun = subst (λ (x : Outcome). StoredAt (x .memory) (s .bus .address) w ended) first at in
       subst (λ (x : Outcome). StoredAt (outcomeOf size i m before a .memory) (s .bus .address) w (x .memory))
@@ -162,7 +166,7 @@ module _ (size : ℕ) where
   record OneAccepted (i m : List ℕ) (e : ℕ) (t : List ℕ) : Type 0 where
     state : State
     memory : length m ≡ size
-    image : decodeOf size i ≡ Good state
+    image : decodeOf size lone i ≡ Good state
     event : e ≤ lastEvent
     room : 1 ≤ length t
 
@@ -172,13 +176,13 @@ module _ (size : ℕ) where
   one-accepted : (i m : List ℕ) (e : ℕ) (t : List ℕ) → singleOf size i m e t .number ≡ accepted → OneAccepted i m e t
   one-accepted i m e t h =
       by-test (eqb (length m) size)
-      (λ q. on-image (eqb-true (length m) size q) (decodeOf size i) refl)
+      (λ q. on-image (eqb-true (length m) size q) (decodeOf size lone i) refl)
       (λ q. refuted 0 (ap number (single-wrong-memory size i m e t (eqb-false (length m) size q))))
     where
       refuted : (n : ℕ) → number (singleOf size i m e t) ≡ n + 1 → OneAccepted i m e t
       refuted n q = let z : n + 1 ≡ 0 = sym q ∙ h in absurd (omega arith)
 
-      on-image : length m ≡ size → (d : Decoded) → decodeOf size i ≡ d → OneAccepted i m e t
+      on-image : length m ≡ size → (d : Decoded) → decodeOf size lone i ≡ d → OneAccepted i m e t
       on-image l Bad q = refuted 1 (ap number (single-wrong-image size i m e t l q))
       on-image l (Good s) q =
           by-test (leb e lastEvent)

@@ -17,6 +17,7 @@ use Rattle.wire.specs.declared.Side.the-variants.{Memory, Companion}
 use Rattle.wire.specs.declared.Phase.{Phase}
 use Rattle.wire.specs.declared.Phase.the-variants.{Idle, Slave, AddressHigh, AddressLow, Pointer, Write, Read}
 use Rattle.wire.proofs.Tests.{and-split}
+use Rattle.bus.specs.Select.{slaveNamesFor}
 use Rattle.bus.specs.Event.{happening, eventOn}
 use Rattle.bus.specs.declared.Beat.{Beat}
 use Rattle.bus.specs.declared.Beat.the-variants.{Cnt2}
@@ -30,7 +31,7 @@ use Rattle.merging.specs.Demand.{WhereWritten, IfWritten, done, one, two, insid
 use Rattle.merging.specs.Clocks.{clocks, bitsOf}
 use Rattle.merging.proofs.Reader.{moving-clocks}
 use Rattle.merging.proofs.Clocks.{slave-whole, first-clocks, second-clocks}
-use Rattle.family.specs.Chip.{sizeOf, companion31, fresh}
+use Rattle.family.specs.Chip.{lone, sizeOf, companion31, fresh}
 use Rattle.family.specs.Run.{runOf}
 use Rattle.family.specs.declared.Size.the-variants.{Kb64, Kb256}
 use Rattle.parts.specs.Events.{Held, event, heldBy}
@@ -41,7 +42,7 @@ use Rattle.larger.proofs.Demand3.{demand-three}
 
 module _ (size : ℕ) where
   memory-whole : Whole (part size) (to Memory) memoryList
-  unfolding pushed sentBit slaveNames
+  unfolding pushed sentBit slaveNames slaveNamesFor
   memory-whole =
       let stored = bitsOf 0x00 ++ bitsOf 0x05 ++ bitsOf 0x5A in (
         tt,
@@ -50,7 +51,7 @@ module _ (size : ℕ) where
       )
 
   companion-whole : Whole (part size) (to Companion) companionList
-  unfolding pushed sentBit slaveNames
+  unfolding pushed sentBit slaveNames slaveNamesFor
   companion-whole =
       let written : List (Event Beat) = clocks (bitsOf 0x15) (line stop ∷ []) in (
         tt,
@@ -72,13 +73,13 @@ module _ (size : ℕ) where
       (second-clocks P (bitsOf 0x15) moving (two done))))))))))
 
   -- no event at all changes the protection
-  abbrev protection : Held size companion31 → ℕ
+  abbrev protection : Held size lone companion31 → ℕ
   protection h = guardOf (h .companion)
 
-  abbrev next : Held size companion31 → Event Beat → Held size companion31
-  next h e = heldBy size companion31 (event size companion31 h (byteOf size companion31 e))
+  abbrev next : Held size lone companion31 → Event Beat → Held size lone companion31
+  next h e = heldBy size lone companion31 (event size lone companion31 h (byteOf size lone companion31 e))
 
-  abbrev isSteady : Held size companion31 → List (Event Beat) → Bool
+  abbrev isSteady : Held size lone companion31 → List (Event Beat) → Bool
   isSteady h [] = true
   isSteady h (e ∷ es) = eqb (protection (next h e)) (protection h) && isSteady (next h e) es
 
@@ -98,8 +99,8 @@ module _ (size : ℕ) where
   if-written p (line (clock d)) h = where-written p h
   if-written p (tick t) h = tt
 
-  steady-of-test : (h : Held size companion31) (es : List (Event Beat)) → isSteady h es ≡ true
-      → WritesSteadyIn size companion31 h es
+  steady-of-test : (h : Held size lone companion31) (es : List (Event Beat)) → isSteady h es ≡ true
+      → WritesSteadyIn size lone companion31 h es
   steady-of-test h [] t = tt
   steady-of-test h (e ∷ es) t =
       let b = and-split (eqb (protection (next h e)) (protection h)) (isSteady (next h e) es) t in (
@@ -107,8 +108,8 @@ module _ (size : ℕ) where
         steady-of-test (next h e) es (b .1),
       )
 
-  writes-steady : (m : List ℕ) → WritesSteadyIn size companion31 (held size fresh m) companionList
-  unfolding happening eventOn lined clocked receivedAt kept pushed sentBit placeAt opened answers slaveNames
+  writes-steady : (m : List ℕ) → WritesSteadyIn size lone companion31 (held size fresh m) companionList
+  unfolding happening eventOn lined clocked receivedAt kept pushed sentBit placeAt opened answers slaveNames slaveNamesFor
       aimOf storeOf writtenOf edgeOf nextCount blankOf lostOf
   writes-steady m = steady-of-test (held size fresh m) companionList refl
 
@@ -119,7 +120,7 @@ example-demanded k m =
     (memory-whole size) (companion-whole size) (lists-merge size) (writes-steady size m)
 
 pub example-outcome : ExampleOutcome
-unfolding runOf happening eventOn lined clocked receivedAt kept pushed sentBit placeAt opened answers slaveNames
+unfolding runOf happening eventOn lined clocked receivedAt kept pushed sentBit placeAt opened answers slaveNames slaveNamesFor
     putByte aimOf storeOf writtenOf edgeOf nextCount blankOf lostOf
 example-outcome Kb64 m =
     record { memory = refl; address = refl; watchdog = refl; first = refl; second = refl; companion-address = refl }

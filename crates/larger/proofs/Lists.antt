@@ -6,7 +6,7 @@ use Prim.Native.Nat.{ℕ, _+_, _*_}
 use mathlib.Core.Path.{_≡_, refl}
 use mathlib.Core.Bool.{Bool, true, false, cond}
 use mathlib.Core.List.{List, [], _∷_}
-use Rattle.family.specs.Chip.{companion31, eventOf}
+use Rattle.family.specs.Chip.{lone, companion31, eventOf}
 use Rattle.family.specs.Step.{stateOf}
 use Rattle.family.specs.Run.{runOf}
 use Rattle.family.specs.declared.State.{State}
@@ -15,21 +15,21 @@ use Rattle.larger.specs.Demand3.{held}
 
 module _ (size : ℕ) where
   pub run-held : (s : State) (m es : List ℕ)
-      → afterEvents size companion31 (held size s m) es
-      ≡ held size (runOf size s m es .state) (runOf size s m es .memory)
+      → afterEvents size lone companion31 (held size s m) es
+      ≡ held size (runOf size lone s m es .state) (runOf size lone s m es .memory)
   unfolding runOf
   run-held s m [] = refl
-  run-held s m (e ∷ es) = let d = eventOf size s m e in run-held (stateOf d) (d .memory) es
+  run-held s m (e ∷ es) = let d = eventOf size lone s m e in run-held (stateOf d) (d .memory) es
 
   line-alone : (d : Bool) → 2 * 0 + cond d 1 0 ≡ cond d 1 0
   line-alone true = refl
   line-alone false = refl
 
   pub answers-held : (s : State) (m es : List ℕ)
-      → answersTo size companion31 (held size s m) es ≡ runOf size s m es .answers
+      → answersTo size lone companion31 (held size s m) es ≡ runOf size lone s m es .answers
   unfolding runOf
   answers-held s m [] = refl
   answers-held s m (e ∷ es) =
-      let d = eventOf size s m e in
+      let d = eventOf size lone s m e in
       let rest = answers-held (stateOf d) (d .memory) es in
       λ i. line-alone (d .line) i ∷ rest i

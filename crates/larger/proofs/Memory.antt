@@ -16,7 +16,7 @@ use Rattle.bus.specs.declared.Beat.the-variants.{Second, Cnt1, Cnt2}
 use Rattle.bus.specs.declared.Deed.{Deed}
 use Rattle.bus.specs.declared.Deed.the-variants as deed
 use Rattle.bus.proofs.Split.{split}
-use Rattle.family.specs.Chip.{companion31, beaten}
+use Rattle.family.specs.Chip.{lone, companion31, beaten}
 use Rattle.family.specs.Run.{runOf}
 use Rattle.family.proofs.Entry.{limits-of}
 use Rattle.rig31.proofs.Runs.{run-ok}
@@ -41,19 +41,19 @@ module _ (size : ℕ) where
   unfolding beats-keep
   acknowledged-stored z s m before byte w d wf l start r pulls =
       let o = run-ok size z s m before wf l in
-      let inside : runOf size s m before .state .bus .address < length (runOf size s m before .memory) =
-      rw (o .memory) (limits-of size (runOf size s m before .state) (o .state) .bus .address) in
+      let inside : runOf size lone s m before .state .bus .address < length (runOf size lone s m before .memory) =
+      rw (o .memory) (limits-of size lone (runOf size lone s m before .state) (o .state) .bus .address) in
       let b = run-held size s m before in
       let h = held size s m in
-      let low : Pulls size companion31 (afterEvents size companion31 h (before ++ byte)) =
+      let low : Pulls size lone companion31 (afterEvents size lone companion31 h (before ++ byte)) =
       rw (run-held size s m (before ++ byte)) pulls in
       rw (b, run-held size s m (before ++ (byte ++ (clockEvent d ∷ [])))) at
-      (stored.acknowledged-stored size companion31 beats-keep h before byte w d (rw b inside) (rw b start) r low)
+      (stored.acknowledged-stored size lone companion31 beats-keep h before byte w d (rw b inside) (rw b start) r low)
 
   pub protected-kept : ProtectedKept size
   protected-kept s m es a h =
       rw (run-held size s m es) at
-      (kept.protected-kept size companion31 (held size s m) es a
+      (kept.protected-kept size lone companion31 (held size s m) es a
       (λ done rest e q. rw (run-held size s m done) (h done rest e q)))
 
   -- what is asked of the companion, but to store, leaves WP1 WP0
@@ -73,6 +73,6 @@ module _ (size : ℕ) where
   pub only-stores-protect : OnlyStoresProtect size
   only-stores-protect s m e n =
       let u = s .bus in
-      ap (λ (d : Done size companion31). guardOf (d .companion))
-      (split size companion31 u (s .counters) m (u .power) (happening e))
+      ap (λ (d : Done size lone companion31). guardOf (d .companion))
+      (split size lone companion31 u (s .counters) m (u .power) (happening e))
       ∙ served-guard (s .counters) (deedOf (u .power) (u .phase) (happening e)) n

@@ -17,7 +17,7 @@ use Rattle.counters.specs.Part.{edgeOf}
 use Rattle.counters.specs.declared.Counters.{Counters}
 use Rattle.counters.specs.declared.Input.{Input}
 use Rattle.counters.specs.declared.Input.the-variants.{Cnt1, Cnt2}
-use Rattle.family.specs.Chip.{companion31, Done, eventOf}
+use Rattle.family.specs.Chip.{lone, companion31, Done, eventOf}
 use Rattle.family.specs.declared.State.{State}
 
 -- "Power or backup is present."
@@ -36,21 +36,21 @@ edgeByte Cnt1 = 8
 edgeByte Cnt2 = 9
 
 -- Auxiliary: an event that leaves this companion and all else as it was, and the line high.
-abbrev pub left : (size : ℕ) → State → List ℕ → Counters → Done size
-left size s m c = done size companion31 (s .bus) c m true
+abbrev pub left : (size : ℕ) → State → List ℕ → Counters → Done size lone
+left size s m c = done size lone companion31 (s .bus) c m true
 
 -- An edge that counts leaves the counters one on; any other changes nothing.
 abbrev pub EdgesCount : ℕ → Type 0
 EdgesCount size =
     (s : State) (m : List ℕ) (i : Input)
-    → eventOf size s m (edgeByte i) ≡ left size s m (cond (counts s) (edgeOf (s .counters) i) (s .counters))
+    → eventOf size lone s m (edgeByte i) ≡ left size s m (cond (counts s) (edgeOf (s .counters) i) (s .counters))
 
 -- "During a write too (our ruling)": while a transfer is under way, at whatever clock.
 abbrev pub InTransfersToo : ℕ → Type 0
 InTransfersToo size =
     (s : State) (m : List ℕ) (i : Input) → s .bus .power ≡ On → isIdle (s .bus .phase) ≡ false
-    → eventOf size s m (edgeByte i) ≡ left size s m (edgeOf (s .counters) i)
+    → eventOf size lone s m (edgeByte i) ≡ left size s m (edgeOf (s .counters) i)
 
 -- "It has no calendar: ticks change nothing."
 abbrev pub TicksNothing : ℕ → Type 0
-TicksNothing size = (s : State) (m : List ℕ) → eventOf size s m 4 ≡ left size s m (s .counters)
+TicksNothing size = (s : State) (m : List ℕ) → eventOf size lone s m 4 ≡ left size s m (s .counters)

@@ -13,6 +13,7 @@ use mathlib.Core.List.{List, [], _∷_, _++_}
 use lib.ListN.{length, getD, take, drop}
 use Rattle.weights.specs.Weight.{has}
 use Rattle.counters.specs.Map.{SNL}
+use Rattle.family.specs.Chip.{lone}
 use Rattle.family.specs.Numbers.{accepted}
 use Rattle.family.specs.declared.State.{State}
 use Rattle.rig31.specs.Image.{decodeOf}
@@ -34,7 +35,7 @@ module _ (size : ℕ) where
   CallStores =
       (i m before byte a : List ℕ) (w : ℕ) (d : Bool) (s : State)
       → outcomeOf size i m (upToNinth before byte d) a .number ≡ accepted
-      → decodeOf size (outcomeOf size i m before a .image) ≡ Good s → AtData (s .bus) → Byte w byte
+      → decodeOf size lone (outcomeOf size i m before a .image) ≡ Good s → AtData (s .bus) → Byte w byte
       → getD (outcomeOf size i m (upToNinth before byte true) a .answers) (length (before ++ byte)) 0 % 2 ≡ 0
       → StoredAt (outcomeOf size i m before a .memory) (s .bus .address) w
       (outcomeOf size i m (upToNinth before byte d) a .memory)
@@ -42,7 +43,8 @@ module _ (size : ℕ) where
   -- "A protected address is never changed": one that is protected before each event of the list has what it had.
   abbrev pub CallKeeps : Type 0
   CallKeeps =
-      (i m es b : List ℕ) (a : ℕ) (s : State) → outcomeOf size i m es b .number ≡ accepted → decodeOf size i ≡ Good s
+      (i m es b : List ℕ) (a : ℕ) (s : State) → outcomeOf size i m es b .number ≡ accepted → decodeOf size lone i ≡ Good
+      s
       → BeforeEach size (λ t e. Protected size t a ≡ true) s m es
       → getD (outcomeOf size i m es b .memory) a 0 ≡ getD m a 0
 

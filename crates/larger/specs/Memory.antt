@@ -15,7 +15,7 @@ use Rattle.counters.specs.Part.{guardOf}
 use Rattle.bus.specs.Event.{happening}
 use Rattle.bus.specs.Serve.{deedOf}
 use Rattle.bus.specs.declared.Deed.the-variants.{Store}
-use Rattle.family.specs.Chip.{eventOf}
+use Rattle.family.specs.Chip.{lone, eventOf}
 use Rattle.family.specs.Limits.{wellFormed}
 use Rattle.family.specs.Run.{runOf}
 use Rattle.family.specs.declared.State.{State}
@@ -27,12 +27,12 @@ module _ (size : ℕ) where
   -- clocks come, with ticks and edges among them, and the device itself pulls the ninth clock's line low.
   abbrev pub AcknowledgedStored : Type 0
   AcknowledgedStored =
-      (s : State) (m before byte : List ℕ) (w : ℕ) (d : Bool) → wellFormed size s ≡ true → length m ≡ size
-      → let begun = runOf size s m before in
-      let read = runOf size s m (before ++ byte) in
-      AtData (begun .state .bus) → Byte w byte → eventOf size (read .state) (read .memory) 3 .line ≡ false
+      (s : State) (m before byte : List ℕ) (w : ℕ) (d : Bool) → wellFormed size lone s ≡ true → length m ≡ size
+      → let begun = runOf size lone s m before in
+      let read = runOf size lone s m (before ++ byte) in
+      AtData (begun .state .bus) → Byte w byte → eventOf size lone (read .state) (read .memory) 3 .line ≡ false
       → StoredAt (begun .memory) (begun .state .bus .address) w
-      (runOf size s m (before ++ (byte ++ (clockEvent d ∷ []))) .memory)
+      (runOf size lone s m (before ++ (byte ++ (clockEvent d ∷ []))) .memory)
 
   -- The address is protected, by WP1 WP0 of 0Bh as they stand.
   abbrev pub Protected : State → ℕ → Bool
@@ -41,17 +41,17 @@ module _ (size : ℕ) where
   -- However the list is parted into events that were done, the next event, and the rest.
   abbrev pub BeforeEach : (State → ℕ → Type 0) → State → List ℕ → List ℕ → Type 0
   BeforeEach X s m es =
-      (done rest : List ℕ) (e : ℕ) → es ≡ done ++ (e ∷ rest) → X (runOf size s m done .state) e
+      (done rest : List ℕ) (e : ℕ) → es ≡ done ++ (e ∷ rest) → X (runOf size lone s m done .state) e
 
   -- "A protected address is never changed."
   abbrev pub ProtectedKept : Type 0
   ProtectedKept =
       (s : State) (m es : List ℕ) (a : ℕ) → BeforeEach (λ t e. Protected t a ≡ true) s m es
-      → getD (runOf size s m es .memory) a 0 ≡ getD m a 0
+      → getD (runOf size lone s m es .memory) a 0 ≡ getD m a 0
 
   -- No event changes WP1 WP0 but one that asks the companion to store a byte: neither the loss of both supplies does.
   abbrev pub OnlyStoresProtect : Type 0
   OnlyStoresProtect =
       (s : State) (m : List ℕ) (e : ℕ)
       → ((b : ℕ) → deedOf (s .bus .power) (s .bus .phase) (happening e) ≡ Store b → ⊥)
-      → guardOf (eventOf size s m e .companion) ≡ guardOf (s .counters)
+      → guardOf (eventOf size lone s m e .companion) ≡ guardOf (s .counters)

@@ -6,6 +6,7 @@ use Prim.Native.Nat.{ℕ, _≤_, _<_}
 use mathlib.Core.Path.{_≡_}
 use mathlib.Core.List.{List, _∷_, _++_}
 use lib.ListN.{length}
+use Rattle.family.specs.Chip.{lone}
 use Rattle.family.specs.declared.State.{State}
 use Rattle.rig31.specs.Image.{decodeOf}
 use Rattle.rig31.specs.Run.{refused, outcomeOf}
@@ -22,12 +23,12 @@ pub record UnknownIn (es : List ℕ) : Type 0 where
 -- "Checked in the order of the numbers"; under each but 0 nothing is written.
 pub record RunNumbers (size : ℕ) (i m es a : List ℕ) : Type 0 where
   pub one : (length m ≡ size → ⊥) → outcomeOf size i m es a ≡ refused 1 i m a
-  pub two : length m ≡ size → decodeOf size i ≡ Bad → outcomeOf size i m es a ≡ refused 2 i m a
-  pub three : length m ≡ size → (s : State) → decodeOf size i ≡ Good s → UnknownIn es
+  pub two : length m ≡ size → decodeOf size lone i ≡ Bad → outcomeOf size i m es a ≡ refused 2 i m a
+  pub three : length m ≡ size → (s : State) → decodeOf size lone i ≡ Good s → UnknownIn es
       → outcomeOf size i m es a ≡ refused 3 i m a
-  pub four : length m ≡ size → (s : State) → decodeOf size i ≡ Good s → (UnknownIn es → ⊥) → length a < length es
+  pub four : length m ≡ size → (s : State) → decodeOf size lone i ≡ Good s → (UnknownIn es → ⊥) → length a < length es
       → outcomeOf size i m es a ≡ refused 4 i m a
-  pub zero : length m ≡ size → (s : State) → decodeOf size i ≡ Good s → (UnknownIn es → ⊥) → length es ≤ length a
+  pub zero : length m ≡ size → (s : State) → decodeOf size lone i ≡ Good s → (UnknownIn es → ⊥) → length es ≤ length a
       → outcomeOf size i m es a .number ≡ 0
 
 abbrev pub EveryNumber : ℕ → Type 0

@@ -1,7 +1,7 @@
 -- SPDX-License-Identifier: Apache-2.0
--- Demand 3 on event bytes, from that of the machine, over any size and companion. A powered event byte is the machine's
--- event (`event-is`), by computation; so a list of event bytes leaves what the machine's run leaves (`run-is`), and is
--- answered by its answers, written as bytes (`answers-are`) or as bits (`lines-are`).
+-- Demand 3 on event bytes, from that of the machine, over any size, select and companion. A powered event byte is the
+-- machine's event (`event-is`), by computation; so a list of event bytes leaves what the machine's run leaves
+-- (`run-is`), and is answered by its answers, written as bytes (`answers-are`) or as bits (`lines-are`).
 -- Assumes nothing.
 use Prim.Native.Nat.{ℕ, _+_, _*_, _%_}
 use mathlib.Core.Path.{_≡_, refl, sym, ap, subst, _∙_}
@@ -41,12 +41,12 @@ picked-map f mine (by i e ∷ l) [] = refl
 picked-map f mine (by i e ∷ l) (a ∷ all) =
     keep-map f (mine i) a (picked mine l (map f all)) (picked mine l all) (picked-map f mine l all)
 
-module _ (size : ℕ) (D : Desks) where
+module _ (size select : ℕ) (D : Desks) where
   abbrev P : Machine.Parts
-  P = partOf size D
+  P = partOf size select D
 
   abbrev H : Type 0
-  H = Held size D
+  H = Held size select D
 
   abbrev Bus : Type 0
   Bus = Machine.State P
@@ -55,19 +55,19 @@ module _ (size : ℕ) (D : Desks) where
   Events = List (BusEvent P)
 
   abbrev after : H → List ℕ → H
-  after = afterEvents size D
+  after = afterEvents size select D
 
   abbrev answers : H → List ℕ → List ℕ
-  answers = answersTo size D
+  answers = answersTo size select D
 
   abbrev byteOf : BusEvent P → ℕ
-  byteOf = bytes.byteOf size D
+  byteOf = bytes.byteOf size select D
 
   abbrev bytesOf : Events → List ℕ
-  bytesOf = bytes.bytesOf size D
+  bytesOf = bytes.bytesOf size select D
 
   abbrev SteadyIn : H → Events → Type 0
-  SteadyIn = bytes.WritesSteadyIn size D
+  SteadyIn = bytes.WritesSteadyIn size select D
 
   -- what a powered device holds, of the machine's state; and its memory
   abbrev heldOf : Bus → H
@@ -90,7 +90,7 @@ module _ (size : ℕ) (D : Desks) where
 
   -- one event
   event-is : (u : Bus) (e : BusEvent P)
-      → event size D (heldOf u) (byteOf e) ≡ doneOf size D (step P u e)
+      → event size select D (heldOf u) (byteOf e) ≡ doneOf size select D (step P u e)
   unfolding happening eventOn
   event-is u (line start) = refl
   event-is u (line stop) = refl
@@ -101,11 +101,11 @@ module _ (size : ℕ) (D : Desks) where
   event-is u (tick Cnt2) = refl
 
   module _ (u : Bus) (e : BusEvent P) where
-    after-is : heldBy size D (event size D (heldOf u) (byteOf e)) ≡ heldOf (step P u e .state)
-    after-is = ap (heldBy size D) (event-is u e)
+    after-is : heldBy size select D (event size select D (heldOf u) (byteOf e)) ≡ heldOf (step P u e .state)
+    after-is = ap (heldBy size select D) (event-is u e)
 
-    answer-is : answerTo size D (heldOf u) (byteOf e) ≡ byteFor (answerOf P (step P u e))
-    answer-is = ap (λ (d : Done size D). 2 * D .pin (d .companion) + cond (d .line) 1 0) (event-is u e)
+    answer-is : answerTo size select D (heldOf u) (byteOf e) ≡ byteFor (answerOf P (step P u e))
+    answer-is = ap (λ (d : Done size select D). 2 * D .pin (d .companion) + cond (d .line) 1 0) (event-is u e)
 
   -- a list of events
   run-is : (u : Bus) (es : Events) → after (heldOf u) (bytesOf es) ≡ heldOf (run P u es)
@@ -164,7 +164,7 @@ module _ (size : ℕ) (D : Desks) where
         ∙ (picked-map byteFor isCompanion l (answersOf P (λ a. a) u (eventsOf l))
         ∙ (ap (map byteFor) (r .companion-answers) ∙ sym (answers-are u ys)))
 
-    demanded : bytes.Demanded size D (heldOf u) (bytesOf xs) (bytesOf ys) all l
+    demanded : bytes.Demanded size select D (heldOf u) (bytesOf xs) (bytesOf ys) all l
     demanded =
         record {
           memory = store-alike (λ m. m .bytes);
@@ -186,12 +186,12 @@ module _ (size : ℕ) (D : Desks) where
         memory = h .memory;
       }
 
-  pub demand-three : OnlyWrites P → DemandThree size D
+  pub demand-three : OnlyWrites P → DemandThree size select D
   unfolding machineOf
   demand-three only h xs ys l on idle wx wy merge steady =
       let u = machineOf h in
       let k = powered h on in
-      subst (λ (z : H). bytes.Demanded size D z (bytesOf xs) (bytesOf ys) (bytesOf (eventsOf l)) l) (sym k)
+      subst (λ (z : H). bytes.Demanded size select D z (bytesOf xs) (bytesOf ys) (bytesOf (eventsOf l)) l) (sym k)
       (demanded u xs ys l
       (isolation P only u xs ys l idle wx wy merge
       (steady-is u ys (subst (λ (z : H). SteadyIn z ys) k steady))))

@@ -15,27 +15,29 @@ use Rattle.bus.specs.declared.Beat.the-variants.{Second, Cnt1, Cnt2}
 use Rattle.bus.specs.declared.Power.the-variants.{On}
 use Rattle.parts.specs.Events.{clockEvent, beatByte, Held, event, heldBy, afterEvents}
 
-module _ (size : ℕ) (D : Desks) (h : Held size D) where
+module _ (size select : ℕ) (D : Desks) (h : Held size select D) where
   module _ (on : h .bus .power ≡ On) where
     pub clock-event : (d : Bool)
-        → event size D h (clockEvent d)
-        ≡ doneOf size D (clocked (partOf size D) (h .bus .phase) (lent (h .memory) (h .bus .address)) (h .companion) d)
+        → event size select D h (clockEvent d)
+        ≡ doneOf size select D (clocked (partOf size select D) (h .bus .phase) (lent (h .memory) (h .bus .address))
+        (h .companion) d)
     unfolding happening eventOn lined
     clock-event true = rw on
     clock-event false = rw on
 
     pub beat-event : (t : Beat)
-        → event size D h (beatByte t) ≡ done size D (h .bus) (D .ticked t (h .companion)) (h .memory) true
+        → event size select D h (beatByte t) ≡ done size select D (h .bus) (D .ticked t (h .companion)) (h .memory) true
     unfolding happening eventOn
     beat-event Second = rw on
     beat-event Cnt1 = rw on
     beat-event Cnt2 = rw on
 
-    pub power-event : event size D h 7 ≡ done size D (h .bus) (h .companion) (h .memory) true
+    pub power-event : event size select D h 7 ≡ done size select D (h .bus) (h .companion) (h .memory) true
     unfolding happening eventOn
     power-event = rw on
 
-pub after-append : (size : ℕ) (D : Desks) (h : Held size D) (xs ys : List ℕ)
-    → afterEvents size D h (xs ++ ys) ≡ afterEvents size D (afterEvents size D h xs) ys
-after-append size D h [] ys = refl
-after-append size D h (e ∷ xs) ys = after-append size D (heldBy size D (event size D h e)) xs ys
+pub after-append : (size select : ℕ) (D : Desks) (h : Held size select D) (xs ys : List ℕ)
+    → afterEvents size select D h (xs ++ ys) ≡ afterEvents size select D (afterEvents size select D h xs) ys
+after-append size select D h [] ys = refl
+after-append size select D h (e ∷ xs) ys = after-append size select D (heldBy size select D (event size select D h e))
+    xs ys

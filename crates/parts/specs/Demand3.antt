@@ -1,6 +1,6 @@
 -- SPDX-License-Identifier: Apache-2.0
--- Demand 3 on event bytes and answer bytes, over any size and companion; "a counter edge joins the ticks" (02, number
--- 5).
+-- Demand 3 on event bytes and answer bytes, over any size, select and companion; "a counter edge joins the ticks" (02,
+-- number 5).
 --   byteOf, bytesOf            the bytes of events, none of them a power event
 --   linesOf, WritesSteadyIn    bit 0 of answers; protection bits unchanged by writes
 --   Demanded, DemandThree      what then holds; the demand
@@ -22,39 +22,44 @@ use Rattle.parts.specs.Events.{clockEvent, beatByte, Held, event, heldBy
 abbrev pub linesOf : List ℕ → List ℕ
 linesOf ns = map (λ n. n % 2) ns
 
-module _ (size : ℕ) (D : Desks) where
+module _ (size select : ℕ) (D : Desks) where
   -- 01, Event bytes and answer bytes: "0 Start; 1 Stop", a Clock, a tick or an edge.
-  abbrev pub byteOf : BusEvent (partOf size D) → ℕ
+  abbrev pub byteOf : BusEvent (partOf size select D) → ℕ
   byteOf (line start) = 0
   byteOf (line stop) = 1
   byteOf (line (clock d)) = clockEvent d
   byteOf (tick t) = beatByte t
 
-  abbrev pub bytesOf : List (BusEvent (partOf size D)) → List ℕ
+  abbrev pub bytesOf : List (BusEvent (partOf size select D)) → List ℕ
   bytesOf es = map byteOf es
 
   -- "Protection bits unchanged by writes": no data byte that the list writes changes them.
-  abbrev pub WritesSteadyIn : Held size D → List (BusEvent (partOf size D)) → Type 0
+  abbrev pub WritesSteadyIn : Held size select D → List (BusEvent (partOf size select D)) → Type 0
   WritesSteadyIn h [] = Unit {0}
   WritesSteadyIn h (e ∷ es) =
-      let next = heldBy size D (event size D h (byteOf e)) in
+      let next = heldBy size select D (event size select D h (byteOf e)) in
       IfWritten (h .bus .phase) e (D .guard (next .companion) ≡ D .guard (h .companion)) × WritesSteadyIn next es
 
   -- What three lists leave and answer, the third a merge of the first two: memory, its address and the line answers to
   -- memory events as if the first list had run alone; the companion with its address and the whole answers to companion
   -- events, ticks and edges as if the second had.
-  pub record Demanded (h : Held size D) (first second merged : List ℕ) (l : List (PartyEvent (partOf size D))) : Type 0
+  pub record Demanded (h : Held size select D) (first second merged : List ℕ) (l : List (PartyEvent (partOf size select
+      D))) : Type 0
     where
-      pub memory : afterEvents size D h merged .memory ≡ afterEvents size D h first .memory
-      pub memory-address : afterEvents size D h merged .bus .address ≡ afterEvents size D h first .bus .address
-      pub memory-lines : linesOf (picked isMemory l (answersTo size D h merged)) ≡ linesOf (answersTo size D h first)
-      pub companion : afterEvents size D h merged .companion ≡ afterEvents size D h second .companion
-      pub companion-answers : picked isCompanion l (answersTo size D h merged) ≡ answersTo size D h second
+      pub memory : afterEvents size select D h merged .memory ≡ afterEvents size select D h first .memory
+      pub memory-address : afterEvents size select D h merged .bus .address ≡ afterEvents size select D h first
+          .bus .address
+      pub memory-lines : linesOf (picked isMemory l (answersTo size select D h merged)) ≡ linesOf (answersTo size select
+          D h first)
+      pub companion : afterEvents size select D h merged .companion ≡ afterEvents size select D h second .companion
+      pub companion-answers : picked isCompanion l (answersTo size select D h merged) ≡ answersTo size select D h second
 
   abbrev pub DemandThree : Type 0
   DemandThree =
-      (h : Held size D) (xs ys : List (BusEvent (partOf size D))) (l : List (PartyEvent (partOf size D)))
+      (h : Held size select D) (xs ys : List (BusEvent (partOf size select D))) (l : List (PartyEvent (partOf size
+      select D)))
       → h .bus .power ≡ On → h .bus .phase ≡ Idle
-      → Whole (partOf size D) (to Memory) xs → Whole (partOf size D) (to Companion) ys → Merge (partOf size D) xs ys l
+      → Whole (partOf size select D) (to Memory) xs → Whole (partOf size select D) (to Companion) ys → Merge (partOf
+      size select D) xs ys l
       → WritesSteadyIn h ys
       → Demanded h (bytesOf xs) (bytesOf ys) (bytesOf (eventsOf l)) l

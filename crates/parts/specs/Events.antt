@@ -1,5 +1,5 @@
 -- SPDX-License-Identifier: Apache-2.0
--- Event bytes on a part of any size and companion, one by one.
+-- Event bytes on a part of any size, select and companion, one by one.
 --   clockEvent, beatByte       the bytes of a Clock, and of a tick or an edge
 --   Held                       the bus, the companion and the lent memory
 --   afterEvent, answerTo       one event byte: what it leaves, its answer byte
@@ -25,17 +25,17 @@ beatByte Second = 4
 beatByte Cnt1 = 8
 beatByte Cnt2 = 9
 
-module _ (size : ℕ) (D : Desks) where
+module _ (size select : ℕ) (D : Desks) where
   pub record Held : Type 0 where
     pub bus : Bus
     pub companion : D .Desk
     pub memory : List ℕ
 
   -- Auxiliary: an event byte, and what an event leaves.
-  abbrev pub event : Held → ℕ → Done size D
-  event h e = eventOf size D (h .bus) (h .companion) (h .memory) e
+  abbrev pub event : Held → ℕ → Done size select D
+  event h e = eventOf size select D (h .bus) (h .companion) (h .memory) e
 
-  abbrev pub heldBy : Done size D → Held
+  abbrev pub heldBy : Done size select D → Held
   heldBy d = record { bus = d .bus; companion = d .companion; memory = d .memory }
 
   -- 01: "Bit 0 is the line", and above it what the pin shows.

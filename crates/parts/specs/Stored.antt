@@ -1,7 +1,7 @@
 -- SPDX-License-Identifier: Apache-2.0
--- A written memory data byte, over any size and companion: the events of its eight clocks, what they are worth, and
--- when the device acknowledges it (01, Transfers: "Acknowledged means that the device itself pulls the ninth clock's
--- line low, whatever the master does there").
+-- A written memory data byte, over any size, select and companion: the events of its eight clocks, what they are worth,
+-- and when the device acknowledges it (01, Transfers: "Acknowledged means that the device itself pulls the ninth
+-- clock's line low, whatever the master does there").
 --   Byte                 the events of one byte
 --   AtData, Pulls        a data byte begins; the device pulls the line low
 --   BeatsKeep            what is asked of the companion: no tick and no edge changes its protection
@@ -46,18 +46,19 @@ pub record StoredAt (m : List ℕ) (a w : ℕ) (m′ : List ℕ) : Type 0 where
 abbrev pub BeatsKeep : Desks → Type 0
 BeatsKeep D = (t : Beat) (c : D .Desk) → D .guard (D .ticked t c) ≡ D .guard c
 
-module _ (size : ℕ) (D : Desks) where
+module _ (size select : ℕ) (D : Desks) where
   -- The device itself pulls the line of the next Clock low: though the master leaves it high, it is low.
-  abbrev pub Pulls : Held size D → Type 0
-  Pulls h = event size D h 3 .line ≡ false
+  abbrev pub Pulls : Held size select D → Type 0
+  Pulls h = event size select D h 3 .line ≡ false
 
   -- Demand 2: "an acknowledged memory byte is stored at its address". From whatever the part holds, whatever the events
   -- before: where a data byte of a memory write begins at an address inside the memory, its eight clocks come, and the
   -- device itself pulls the ninth clock's line low, the memory then is as it was but for that byte at the address.
   abbrev pub AcknowledgedStored : Type 0
   AcknowledgedStored =
-      (h : Held size D) (before byte : List ℕ) (w : ℕ) (d : Bool) → let begun = afterEvents size D h before in
+      (h : Held size select D) (before byte : List ℕ) (w : ℕ) (d : Bool) → let begun = afterEvents size select D h
+      before in
       begun .bus .address < length (begun .memory) → AtData (begun .bus) → Byte w byte
-      → Pulls (afterEvents size D h (before ++ byte))
+      → Pulls (afterEvents size select D h (before ++ byte))
       → StoredAt (begun .memory) (begun .bus .address) w
-      (afterEvents size D h (before ++ (byte ++ (clockEvent d ∷ []))) .memory)
+      (afterEvents size select D h (before ++ (byte ++ (clockEvent d ∷ []))) .memory)

@@ -12,6 +12,7 @@ use lib.ListN.{length}
 use borrow.Author.Tests.{eqb-true, eqb-false, leb-true, leb-false}
 use Rattle.wire.proofs.Tests.{by-test}
 use Rattle.family.specs.Numbers.{accepted}
+use Rattle.family.specs.Chip.{lone}
 use Rattle.family.specs.Run.{runOf}
 use Rattle.family.specs.declared.State.{State}
 use Rattle.rig31.specs.Image.{decodeOf}
@@ -26,7 +27,7 @@ use Rattle.rig31.proofs.Runs.{outcome-short-answers, outcome-written}
 pub record Accepted (size : ℕ) (i m es a : List ℕ) : Type 0 where
   pub state : State
   pub memory : length m ≡ size
-  pub image : decodeOf size i ≡ Good state
+  pub image : decodeOf size lone i ≡ Good state
   pub events : allKnown es ≡ true
   pub room : length es ≤ length a
 
@@ -37,9 +38,9 @@ data Ends (size : ℕ) (i m es a : List ℕ) : Type 0 where
 
 ends : (size : ℕ) (i m es a : List ℕ) → Ends size i m es a
 ends size i m es a = by-test (eqb (length m) size)
-    (λ t. on-image (eqb-true (length m) size t) (decodeOf size i) refl)
+    (λ t. on-image (eqb-true (length m) size t) (decodeOf size lone i) refl)
     (λ t. not-done 0 (outcome-wrong-memory size i m es a (eqb-false (length m) size t))) where
-      on-image : length m ≡ size → (d : Decoded) → decodeOf size i ≡ d → Ends size i m es a
+      on-image : length m ≡ size → (d : Decoded) → decodeOf size lone i ≡ d → Ends size i m es a
       on-image l Bad e = not-done 1 (outcome-wrong-image size i m es a l e)
       on-image l (Good s) e = by-test (allKnown es)
           (λ k. by-test (leb (length es) (length a))
@@ -49,7 +50,7 @@ ends size i m es a = by-test (eqb (length m) size)
 
 module _ (size : ℕ) (i m es a : List ℕ) where
   pub accepted-outcome : (c : Accepted size i m es a)
-      → outcomeOf size i m es a ≡ written (runOf size (c .state) m es) es a
+      → outcomeOf size i m es a ≡ written (runOf size lone (c .state) m es) es a
   accepted-outcome c = outcome-written size i m es a (c .memory) (c .state) (c .image) (c .events) (c .room)
 
   pub accepted-number : Accepted size i m es a → outcomeOf size i m es a .number ≡ accepted
@@ -73,12 +74,12 @@ module _ (size : ℕ) (i m es a : List ℕ) where
   pub run-again : 0 < size → (c : Accepted size i m es a) (ys b : List ℕ) → allKnown ys ≡ true → length ys ≤ length b
       → Accepted size (outcomeOf size i m es a .image) (outcomeOf size i m es a .memory) ys b
   run-again z c ys b k l =
-      let o = run-ok size z (c .state) m es (image-decode size i (c .state) (c .image) .0) (c .memory) in
+      let o = run-ok size z (c .state) m es (image-decode size lone i (c .state) (c .image) .0) (c .memory) in
       rw (accepted-outcome c)
       (record {
-        state = runOf size (c .state) m es .state;
+        state = runOf size lone (c .state) m es .state;
         memory = o .memory;
-        image = decode-image size (runOf size (c .state) m es .state) (o .state);
+        image = decode-image size lone (runOf size lone (c .state) m es .state) (o .state);
         events = k;
         room = l;
       })

@@ -12,7 +12,7 @@ use lib.ListN.{length, drop, length-append}
 use lib.Seq.{drop-append-add, drop-length}
 use Rattle.wire.proofs.Tests.{and-join}
 use Rattle.family.specs.Numbers.{accepted, lastEvent}
-use Rattle.family.specs.Chip.{eventOf}
+use Rattle.family.specs.Chip.{lone, eventOf}
 use Rattle.family.specs.Limits.{wellFormed}
 use Rattle.family.specs.Step.{stateOf, stepOf}
 use Rattle.family.specs.Run.{following, answerTo, runOf}
@@ -41,36 +41,37 @@ answers-joined x y xs ys a b l =
 
 module _ (size : ℕ) where
   -- the list is the events one by one: each as the entry for one event does it
-  pub run-by-steps : (s : State) (m : List ℕ) (e : ℕ) (es : List ℕ) → length m ≡ size → wellFormed size s ≡ true
+  pub run-by-steps : (s : State) (m : List ℕ) (e : ℕ) (es : List ℕ) → length m ≡ size → wellFormed size lone s ≡ true
       → e ≤ lastEvent
-      → runOf size s m (e ∷ es)
-      ≡ following (stepOf size s m e .answer ∷ [])
-      (runOf size (stepOf size s m e .state) (stepOf size s m e .memory) es)
+      → runOf size lone s m (e ∷ es)
+      ≡ following (stepOf size lone s m e .answer ∷ [])
+      (runOf size lone (stepOf size lone s m e .state) (stepOf size lone s m e .memory) es)
   unfolding runOf
-  run-by-steps s m e es h w l = rw (step-answered size s m e h w l)
+  run-by-steps s m e es h w l = rw (step-answered size lone s m e h w l)
 
   -- a list in two pieces: the second goes on from what the first left
   pub run-append : (s : State) (m xs ys : List ℕ)
-      → runOf size s m (xs ++ ys)
-      ≡ following (runOf size s m xs .answers) (runOf size (runOf size s m xs .state) (runOf size s m xs .memory) ys)
+      → runOf size lone s m (xs ++ ys)
+      ≡ following (runOf size lone s m xs .answers) (runOf size lone (runOf size lone s m xs .state) (runOf size lone s
+      m xs .memory) ys)
   unfolding runOf
   run-append s m [] ys = refl
   run-append s m (e ∷ xs) ys =
-      let d = eventOf size s m e in ap (following (answerTo d ∷ [])) (run-append (stateOf d) (d .memory) xs ys)
+      let d = eventOf size lone s m e in ap (following (answerTo d ∷ [])) (run-append (stateOf d) (d .memory) xs ys)
 
   -- one answer an event
-  pub answers-length : (s : State) (m es : List ℕ) → length (runOf size s m es .answers) ≡ length es
+  pub answers-length : (s : State) (m es : List ℕ) → length (runOf size lone s m es .answers) ≡ length es
   unfolding runOf
   answers-length s m [] = refl
-  answers-length s m (e ∷ es) = let d = eventOf size s m e in ap suc (answers-length (stateOf d) (d .memory) es)
+  answers-length s m (e ∷ es) = let d = eventOf size lone s m e in ap suc (answers-length (stateOf d) (d .memory) es)
 
   written-joined : (s : State) (m xs ys a b : List ℕ) → length a ≡ length xs
-      → written (runOf size s m (xs ++ ys)) (xs ++ ys) (a ++ b)
-      ≡ joined (written (runOf size s m xs) xs a)
-      (written (runOf size (runOf size s m xs .state) (runOf size s m xs .memory) ys) ys b)
+      → written (runOf size lone s m (xs ++ ys)) (xs ++ ys) (a ++ b)
+      ≡ joined (written (runOf size lone s m xs) xs a)
+      (written (runOf size lone (runOf size lone s m xs .state) (runOf size lone s m xs .memory) ys) ys b)
   written-joined s m xs ys a b l =
-      let r = runOf size s m xs in
-      let t = runOf size (r .state) (r .memory) ys in
+      let r = runOf size lone s m xs in
+      let t = runOf size lone (r .state) (r .memory) ys in
       rw (run-append s m xs ys)
       (λ k. record {
         number = accepted;
@@ -89,14 +90,14 @@ module _ (size : ℕ) where
   run-pieces z i m xs ys a b l h g =
       let c = accepted-by size i m xs a h in
       let s = c .state in
-      let r = runOf size s m xs in
-      let o = run-ok size z s m xs (image-decode size i s (c .image) .0) (c .memory) in
+      let r = runOf size lone s m xs in
+      let o = run-ok size z s m xs (image-decode size lone i s (c .image) .0) (c .memory) in
       let d = accepted-by size (outcomeOf size i m xs a .image) (outcomeOf size i m xs a .memory) ys b g in
       let room : length (xs ++ ys) ≤ length (a ++ b) =
       rw (length-append xs ys, length-append a b) (let n = c .room in let p = d .room in omega arith) in
       let known = known-append xs ys ∙ and-join (allKnown xs) (allKnown ys) (c .events) (d .events) in
       rw (accepted-outcome size i m xs a c)
       (rw (outcome-written size (imageOf (r .state)) (r .memory) ys b (o .memory) (r .state)
-      (decode-image size (r .state) (o .state)) (d .events) (d .room))
+      (decode-image size lone (r .state) (o .state)) (d .events) (d .room))
       (outcome-written size i m (xs ++ ys) (a ++ b) (c .memory) s (c .image) known room
       ∙ written-joined s m xs ys a b l))

@@ -16,7 +16,7 @@ use lib.Seq.{take-suc-set, drop-cons, drop-set-lt, drop-drop}
 use borrow.Author.Tests.{le-leb, lt-leb, leb-true, eq-eqb, ne-eqb}
 use Rattle.wire.proofs.Tests.{and-split}
 use Rattle.family.specs.Numbers.{accepted, wrongMemory, wrongState, unknownEvent, shortAnswers, lastEvent}
-use Rattle.family.specs.Chip.{eventOf}
+use Rattle.family.specs.Chip.{lone, eventOf}
 use Rattle.family.specs.Step.{stateOf}
 use Rattle.family.specs.Limits.{wellFormed}
 use Rattle.family.specs.declared.State.{State}
@@ -52,27 +52,28 @@ rest-kept a a₀ i v e =
 module _ (size : ℕ) where
   -- one turn: the answer goes to its place, and the rest of the run goes on from the next state
   pub run-more : (s : State) (m es a : List ℕ) (i : ℕ) → i < length es → i < length a
-      → following (take (i + 1) (set a i (answerTo (eventOf size s m (getD es i 0)))))
-      (runOf size (stateOf (eventOf size s m (getD es i 0))) (eventOf size s m (getD es i 0) .memory) (drop (i + 1) es))
-      ≡ following (take i a) (runOf size s m (drop i es))
+      → following (take (i + 1) (set a i (answerTo (eventOf size lone s m (getD es i 0)))))
+      (runOf size lone (stateOf (eventOf size lone s m (getD es i 0))) (eventOf size lone s m (getD es i 0) .memory)
+      (drop (i + 1) es))
+      ≡ following (take i a) (runOf size lone s m (drop i es))
   unfolding runOf
   run-more s m es a i he ha = rw (add-one, take-suc-set, drop-cons es i 0) (simp append-assoc)
 
   -- nothing is left
   run-end : (s : State) (m es : List ℕ) (i : ℕ) → length es ≤ i
-      → runOf size s m (drop i es) ≡ record { state = s; memory = m; answers = [] }
+      → runOf size lone s m (drop i es) ≡ record { state = s; memory = m; answers = [] }
   unfolding runOf
   run-end s m es i h = rw (drop-of-length-le es h)
 
   -- the loop's end
   pub run-done : (s₀ s : State) (m₀ m es a₀ a : List ℕ) (i : ℕ) → i ≤ length es → length es ≤ i
-      → following (take i a) (runOf size s m (drop i es)) ≡ runOf size s₀ m₀ es → drop i a ≡ drop i a₀
+      → following (take i a) (runOf size lone s m (drop i es)) ≡ runOf size lone s₀ m₀ es → drop i a ≡ drop i a₀
       → RanThrough size s₀ m₀ es a₀ s m a
   run-done s₀ s m₀ m es a₀ a i h g e d =
-      let w : following (take i a) (record { state = s; memory = m; answers = [] }) ≡ runOf size s₀ m₀ es =
+      let w : following (take i a) (record { state = s; memory = m; answers = [] }) ≡ runOf size lone s₀ m₀ es =
       rw (run-end s m es i g) at e in
       let n : i ≡ length es = omega arith in
-      let front : take i a ≡ runOf size s₀ m₀ es .answers =
+      let front : take i a ≡ runOf size lone s₀ m₀ es .answers =
       sym (append-nil (take i a)) ∙ ap (λ (r : Ended). r .answers) w in
       record {
         state = ap (λ (r : Ended). r .state) w;
@@ -82,16 +83,17 @@ module _ (size : ℕ) where
 
   -- a run keeps a well-formed state well-formed, and the memory's length
   pub record EndedOk (r : Ended) : Type 0 where
-    pub state : wellFormed size (r .state) ≡ true
+    pub state : wellFormed size lone (r .state) ≡ true
     pub memory : length (r .memory) ≡ size
 
-  pub run-ok : 0 < size → (s : State) (m es : List ℕ) → wellFormed size s ≡ true → length m ≡ size
-      → EndedOk (runOf size s m es)
+  pub run-ok : 0 < size → (s : State) (m es : List ℕ) → wellFormed size lone s ≡ true → length m ≡ size
+      → EndedOk (runOf size lone s m es)
   unfolding runOf
   run-ok z s m [] w h = record { state = w; memory = h }
   run-ok z s m (e ∷ es) w h =
-      let o = event-ok size z s m e w h in
-      let r = run-ok z (stateOf (eventOf size s m e)) (eventOf size s m e .memory) es (o .state) (o .memory) in
+      let o = event-ok size lone z s m e w h in
+      let r = run-ok z (stateOf (eventOf size lone s m e)) (eventOf size lone s m e .memory) es (o .state) (o .memory)
+      in
       record { state = r .state; memory = r .memory }
 
   -- the ways through the entry's tests
@@ -101,11 +103,11 @@ module _ (size : ℕ) where
     outcome-wrong-memory h = rw (ne-eqb (length m) size h)
 
     module _ (h : length m ≡ size) where
-      pub outcome-wrong-image : decodeOf size i ≡ Bad → outcomeOf size i m es a ≡ refused wrongState i m a
+      pub outcome-wrong-image : decodeOf size lone i ≡ Bad → outcomeOf size i m es a ≡ refused wrongState i m a
       unfolding outcomeOf
       outcome-wrong-image d = rw (eq-eqb (length m) size h, d)
 
-      module _ (s : State) (d : decodeOf size i ≡ Good s) where
+      module _ (s : State) (d : decodeOf size lone i ≡ Good s) where
         pub outcome-unknown-event : allKnown es ≡ false → outcomeOf size i m es a ≡ refused unknownEvent i m a
         unfolding outcomeOf
         outcome-unknown-event k = rw (eq-eqb (length m) size h, d, k)
@@ -116,7 +118,7 @@ module _ (size : ℕ) where
         outcome-short-answers k l = rw (eq-eqb (length m) size h, d, k, lt-leb (length es) (length a) l)
 
         pub outcome-written : allKnown es ≡ true → length es ≤ length a
-            → outcomeOf size i m es a ≡ written (runOf size s m es) es a
+            → outcomeOf size i m es a ≡ written (runOf size lone s m es) es a
         unfolding outcomeOf
         outcome-written k l = rw (eq-eqb (length m) size h, d, k, le-leb (length es) (length a) l)
 

@@ -8,7 +8,7 @@ use native.Mathlib.Omega.{arith}
 use lib.ListN.{length, drop, set}
 use borrow.Author.Tests.{eq-eqb, ne-eqb, le-leb, lt-leb}
 use Rattle.family.specs.Numbers.{wrongMemory, wrongState, unknownEvent, shortAnswers, lastEvent}
-use Rattle.family.specs.Chip.{eventOf}
+use Rattle.family.specs.Chip.{lone, eventOf}
 use Rattle.family.specs.declared.State.{State}
 use Rattle.rig31.specs.Image.{decodeOf}
 use Rattle.rig31.specs.declared.Decoded.the-variants.{Good, Bad}
@@ -20,11 +20,11 @@ module _ (size : ℕ) (i m : List ℕ) (e : ℕ) (t : List ℕ) where
   single-wrong-memory h = rw (ne-eqb (length m) size h)
 
   module _ (h : length m ≡ size) where
-    pub single-wrong-image : decodeOf size i ≡ Bad → singleOf size i m e t ≡ refused wrongState i m t
+    pub single-wrong-image : decodeOf size lone i ≡ Bad → singleOf size i m e t ≡ refused wrongState i m t
     unfolding singleOf
     single-wrong-image d = rw (eq-eqb (length m) size h, d)
 
-    module _ (s : State) (d : decodeOf size i ≡ Good s) where
+    module _ (s : State) (d : decodeOf size lone i ≡ Good s) where
       pub single-unknown-event : lastEvent < e → singleOf size i m e t ≡ refused unknownEvent i m t
       unfolding singleOf
       single-unknown-event l = rw (eq-eqb (length m) size h, d, lt-leb e lastEvent l)
@@ -33,7 +33,7 @@ module _ (size : ℕ) (i m : List ℕ) (e : ℕ) (t : List ℕ) where
       unfolding singleOf
       single-short k l = rw (eq-eqb (length m) size h, d, le-leb e lastEvent k, lt-leb 1 (length t) l)
 
-      pub single-answered : e ≤ lastEvent → 1 ≤ length t → singleOf size i m e t ≡ answered (eventOf size s m e) t
+      pub single-answered : e ≤ lastEvent → 1 ≤ length t → singleOf size i m e t ≡ answered (eventOf size lone s m e) t
       unfolding singleOf
       single-answered k l = rw (eq-eqb (length m) size h, d, le-leb e lastEvent k, le-leb 1 (length t) l)
 

@@ -43,8 +43,9 @@ module _ (size : ℕ) where
   view-number-unique i m selector start len n n₂ p q = p ∙ sym q
 
   -- reading an image
-  pub decode-unique : (i : List ℕ) (r r₂ : Decoded) → DecodeSettled size i r → DecodeSettled size i r₂ → r ≡ r₂
-  decode-unique i r r₂ p q = sym (settled-decode size i r p) ∙ settled-decode size i r₂ q
+  pub decode-unique : (select : ℕ) (i : List ℕ) (r r₂ : Decoded) → DecodeSettled size select i r
+      → DecodeSettled size select i r₂ → r ≡ r₂
+  decode-unique select i r r₂ p q = sym (settled-decode size select i r p) ∙ settled-decode size select i r₂ q
 
 -- writing an image
 pub image-unique : (s : State) (i i₂ : List ℕ) → i ≡ imageOf s → i₂ ≡ imageOf s → i ≡ i₂

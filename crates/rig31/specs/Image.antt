@@ -73,6 +73,7 @@ candidate i =
       counters = countersAt i;
     }
 
--- The state that an image holds: the candidate, if it is well-formed for the size and writes this very image.
-unfoldable pub decodeOf : ℕ → List ℕ → Decoded
-decodeOf size i = cond (wellFormed size (candidate i) && sameBytes (imageOf (candidate i)) i) (Good (candidate i)) Bad
+-- The state that an image holds: the candidate, if it is well-formed for size and select and writes this very image.
+unfoldable pub decodeOf : ℕ → ℕ → List ℕ → Decoded
+decodeOf size select i = cond (wellFormed size select (candidate i) && sameBytes (imageOf (candidate i)) i) (Good
+    (candidate i)) Bad

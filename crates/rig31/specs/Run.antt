@@ -12,6 +12,7 @@ use mathlib.Core.Option.{Option, some, none}
 use lib.Dec.{leb, eqb}
 use lib.ListN.{length, drop}
 use Rattle.family.specs.Numbers.{accepted, wrongMemory, unknownEvent, shortAnswers, lastEvent}
+use Rattle.family.specs.Chip.{lone}
 use Rattle.family.specs.Run.{Ended, runOf}
 use Rattle.family.specs.declared.State.{State}
 use Rattle.rig31.specs.Image.{imageOf, decodeOf}
@@ -23,9 +24,9 @@ answersOver r es a = r .answers ++ drop (length es) a
 
 -- Auxiliary: what a function returns and leaves are those of a list of events.
 pub record RanThrough (size : ℕ) (s : State) (m es a : List ℕ) (r : State) (m′ a′ : List ℕ) : Type 0 where
-  pub state : r ≡ runOf size s m es .state
-  pub memory : m′ ≡ runOf size s m es .memory
-  pub answers : a′ ≡ answersOver (runOf size s m es) es a
+  pub state : r ≡ runOf size lone s m es .state
+  pub memory : m′ ≡ runOf size lone s m es .memory
+  pub answers : a′ ≡ answersOver (runOf size lone s m es) es a
 
 -- No event byte is above 9.
 unfoldable pub allKnown : List ℕ → Bool
@@ -53,13 +54,13 @@ abbrev pub onDecoded : ℕ → ℕ → Option State → List ℕ → List ℕ �
 onDecoded size n none i m es a = refused n i m a
 onDecoded size n (some s) i m es a =
     cond (allKnown es)
-    (cond (leb (length es) (length a)) (written (runOf size s m es) es a) (refused shortAnswers i m a))
+    (cond (leb (length es) (length a)) (written (runOf size lone s m es) es a) (refused shortAnswers i m a))
     (refused unknownEvent i m a)
 
 -- "Checked in the order of the numbers": image, memory, events and answers to the whole outcome.
 unfoldable pub outcomeOf : ℕ → List ℕ → List ℕ → List ℕ → List ℕ → Outcome
 outcomeOf size i m es a =
-    let read = decodedSays size (decodeOf size i) in
+    let read = decodedSays size lone (decodeOf size lone i) in
     cond (eqb (length m) size) (onDecoded size (read .number) (read .returned) i m es a) (refused wrongMemory i m a)
 
 -- The contract of the list run: what it returns and leaves in the buffers is `outcomeOf` of what it was given.

@@ -12,7 +12,7 @@ use mathlib.Core.Option.{Option, some, none}
 use lib.Dec.{leb, eqb}
 use lib.ListN.{length, drop}
 use Rattle.family.specs.Numbers.{accepted, wrongMemory, unknownEvent, shortAnswers, lastEvent}
-use Rattle.family.specs.Chip.{Done, eventOf}
+use Rattle.family.specs.Chip.{lone, Done, eventOf}
 use Rattle.family.specs.Step.{stateOf, answerByte}
 use Rattle.family.specs.declared.State.{State}
 use Rattle.rig31.specs.Image.{imageOf, decodeOf}
@@ -30,7 +30,7 @@ abbrev pub refused : ℕ → List ℕ → List ℕ → List ℕ → Outcome
 refused n i m t = record { number = n; image = i; memory = m; told = t }
 
 -- What an answered event leaves and tells: the answer byte; bytes past it stay.
-abbrev pub answered : {size : ℕ} → Done size → List ℕ → Outcome
+abbrev pub answered : {size : ℕ} → Done size lone → List ℕ → Outcome
 answered d t =
     record {
       number = accepted;
@@ -44,13 +44,13 @@ abbrev pub onDecoded : ℕ → ℕ → Option State → List ℕ → List ℕ �
 onDecoded size n none i m e t = refused n i m t
 onDecoded size n (some s) i m e t =
     cond (leb e lastEvent)
-    (cond (leb 1 (length t)) (answered (eventOf size s m e) t) (refused shortAnswers i m t))
+    (cond (leb 1 (length t)) (answered (eventOf size lone s m e) t) (refused shortAnswers i m t))
     (refused unknownEvent i m t)
 
 -- "Checked in the order of the numbers": image, memory, event and what is told to the whole outcome.
 unfoldable pub singleOf : ℕ → List ℕ → List ℕ → ℕ → List ℕ → Outcome
 singleOf size i m e t =
-    let read = decodedSays size (decodeOf size i) in
+    let read = decodedSays size lone (decodeOf size lone i) in
     cond (eqb (length m) size) (onDecoded size (read .number) (read .returned) i m e t) (refused wrongMemory i m t)
 
 -- The contract of one event for C: what it returns and leaves in the buffers is `singleOf` of what it was given.

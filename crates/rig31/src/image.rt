@@ -197,15 +197,15 @@ fn read(image: &[u8]) -> State
     }
 }
 
-// The state, well-formed for a size, that writes an image, if there is one.
-pub fn decode(image: &[u8], size: u16) -> Decoded
-    ensures { λ r. ⌜ DecodeSettled size (now (image .entry)) r ⌝ }
+// The state, well-formed for a size and select bits, that writes an image, if there is one.
+pub fn decode(image: &[u8], size: u16, select: u8) -> Decoded
+    ensures { λ r. ⌜ DecodeSettled size select (now (image .entry)) r ⌝ }
 {
     if image.len() != LENGTH {
         return Decoded::Bad;
     }
     let state = read(image);
-    if !state.is_well_formed(size) {
+    if !state.is_well_formed(size, select) {
         return Decoded::Bad;
     }
     let written = image_of(state);

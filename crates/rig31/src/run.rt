@@ -5,7 +5,7 @@ ghost use mathlib.Core.Path.{_≡_};
 ghost use mathlib.Core.Bool.{true};
 ghost use Prim.Native.Nat.{_≤_, _<_};
 ghost use lib.ListN.{length};
-ghost use Rattle.family.specs.Chip.{sizeOf};
+ghost use Rattle.family.specs.Chip.{sizeOf, lone};
 ghost use Rattle.family.specs.Limits.{wellFormed};
 ghost use Rattle.family.specs.declared.Size.the-variants.{Kb64, Kb256};
 ghost use Rattle.rig31.specs.Run.{allKnown, RanThrough, RunSettled};
@@ -18,6 +18,7 @@ use crate::image::write_image;
 use family::KB64;
 use family::KB256;
 use family::LAST_EVENT;
+use family::LONE;
 use family::State;
 use family::numbers::ACCEPTED;
 use family::numbers::SHORT_ANSWERS;
@@ -48,7 +49,7 @@ fn run_events(
     events: &[u8],
     answers: &mut [u8],
 ) -> State
-    requires { ⌜ (wellFormed size state ≡ true) × (length (now memory) ≡ size) × (0 < size) ⌝ }
+    requires { ⌜ (wellFormed size lone state ≡ true) × (length (now memory) ≡ size) × (0 < size) ⌝ }
     requires { ⌜ (allKnown (now events) ≡ true) × (length (now events) ≤ length (now answers)) ⌝ }
     ensures { λ r. ⌜ RanThrough size state (now (memory .entry)) (now (events .entry)) (now (answers .entry))
         r (now (memory .exit)) (now (answers .exit)) ⌝ }
@@ -56,7 +57,7 @@ fn run_events(
     let mut at = state;
     let mut i = 0;
     while i < events.len() {
-        let done = at.advance(memory, size, events[i]);
+        let done = at.advance(memory, size, LONE, events[i]);
         answers[i] = done.answer;
         let next = done.state;
         at = next;
@@ -75,7 +76,7 @@ fn run(size: u16, image: &mut [u8], memory: &mut [u8], events: &[u8], answers: &
     if memory.len() != size as usize {
         return WRONG_MEMORY as u64;
     }
-    let Decoded::Good(state) = decode(image, size) else {
+    let Decoded::Good(state) = decode(image, size, LONE) else {
         return WRONG_STATE as u64;
     };
     if !all_known(events) {

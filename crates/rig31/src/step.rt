@@ -10,6 +10,7 @@ use crate::image::write_image;
 use family::KB64;
 use family::KB256;
 use family::LAST_EVENT;
+use family::LONE;
 use family::numbers::ACCEPTED;
 use family::numbers::SHORT_ANSWERS;
 use family::numbers::UNKNOWN_EVENT;
@@ -28,7 +29,7 @@ fn step(size: u16, image: &mut [u8], memory: &mut [u8], event: u64, told: &mut [
     if memory.len() != size as usize {
         return WRONG_MEMORY as u64;
     }
-    let Decoded::Good(state) = decode(image, size) else {
+    let Decoded::Good(state) = decode(image, size, LONE) else {
         return WRONG_STATE as u64;
     };
     if event > LAST_EVENT as u64 {
@@ -37,7 +38,7 @@ fn step(size: u16, image: &mut [u8], memory: &mut [u8], event: u64, told: &mut [
     if told.len() < TOLD {
         return SHORT_ANSWERS as u64;
     }
-    let done = state.advance(memory, size, event as u8);
+    let done = state.advance(memory, size, LONE, event as u8);
     let next = done.state;
     told[0] = done.answer;
     write_image(next, image);

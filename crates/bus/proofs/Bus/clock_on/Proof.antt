@@ -16,8 +16,8 @@ enum-told c = search needs
 enum-known-phase : tie.Need-enum-known-phase
 enum-known-phase c = search needs
 
-slave-clock-requires : tie.Need-slave-clock-requires
-slave-clock-requires c κs = search needs
+select-clock-requires : tie.Need-select-clock-requires
+select-clock-requires c κs = search needs
 
 turned-requires : tie.Need-turned-requires
 turned-requires c κs = search needs
@@ -62,35 +62,54 @@ read-clock-requires : tie.Need-read-clock-requires
 read-clock-requires c κs = search needs
 
 returns : tie.Need-returns
-returns c = let a = c .before .before .before .args in idle-clock (a .size) (a .guard) (a .reply) (a .self) (now (a .memory)) (a .high) (c .enum-told .given .1)
+returns c = let a = c .before .before .before .args in idle-clock (a .size) (a .select) (a .guard) (a .reply) (a .self)
+    (now (a .memory)) (a .high) (c .enum-told .given .1)
 
 returns-2 : tie.Need-returns-2
 unfolding clocked
-returns-2 c = let a = c .before .before .before .before .before .before .args in at-phase (a .size) (a .guard) (a .reply) (a .self) (now (a .memory)) (a .high) (c .before .before .before .phase .given .1) (rw (c .turned .ensures, c .before .slave-clock .ensures))
+returns-2 c = let a = c .before .before .before .before .before .before .args in at-phase (a .size) (a .select)
+    (a .guard) (a .reply) (a .self) (now (a .memory)) (a .high) (c .before .before .before .phase .given .1) (rw (
+      c
+          .turned .ensures,
+      c .before .select-clock .ensures,
+    ))
 
 returns-3 : tie.Need-returns-3
 unfolding clocked
-returns-3 c = let a = c .before .before .before .before .before .before .args in at-phase (a .size) (a .guard) (a .reply) (a .self) (now (a .memory)) (a .high) (c .before .before .before .phase2 .given .1) (rw (c .turned2 .ensures, c .before .high-clock .ensures))
+returns-3 c = let a = c .before .before .before .before .before .before .args in at-phase (a .size) (a .select)
+    (a .guard) (a .reply) (a .self) (now (a .memory)) (a .high) (c .before .before .before .phase2 .given .1) (rw
+    (c .turned2 .ensures, c .before .high-clock .ensures))
 
 returns-4 : tie.Need-returns-4
 unfolding clocked
-returns-4 c = let a = c .before .before .before .before .before .before .args in at-phase (a .size) (a .guard) (a .reply) (a .self) (now (a .memory)) (a .high) (c .before .before .before .phase3 .given .1) (rw (c .moved .ensures, c .before .low-clock .ensures (now (a .memory))) (both refl (sym (low-bytes _ _ _ _ _ _))))
+returns-4 c = let a = c .before .before .before .before .before .before .args in at-phase (a .size) (a .select)
+    (a .guard) (a .reply) (a .self) (now (a .memory)) (a .high) (c .before .before .before .phase3 .given .1) (rw (
+      c
+          .moved .ensures,
+      c .before .low-clock .ensures (now (a .memory)),
+    ) (both refl (sym (low-bytes _ _ _ _ _ _))))
 
 returns-5 : tie.Need-returns-5
 unfolding clocked
-returns-5 c = let a = c .before .before .before .before .before .before .args in at-phase (a .size) (a .guard) (a .reply) (a .self) (now (a .memory)) (a .high) (c .before .before .before .phase4 .given .1) (rw (c .turned3 .ensures, c .before .pointer-turn .ensures))
+returns-5 c = let a = c .before .before .before .before .before .before .args in at-phase (a .size) (a .select)
+    (a .guard) (a .reply) (a .self) (now (a .memory)) (a .high) (c .before .before .before .phase4 .given .1) (rw
+    (c .turned3 .ensures, c .before .pointer-turn .ensures))
 
 same-length : tie.Need-same-length
 same-length c = search needs
 
 returns-6 : tie.Need-returns-6
-returns-6 c = let a = c .before .before .before .before .before .before .before .before .args in at-phase (a .size) (a .guard) (a .reply) (a .self) (now (a .memory)) (a .high) (c .before .before .before .before .before .phase5 .given .1) (c .before .before .write-clock .ensures)
+returns-6 c = let a = c .before .before .before .before .before .before .before .before .args in at-phase (a .size)
+    (a .select) (a .guard) (a .reply) (a .self) (now (a .memory)) (a .high) (c .before .before .before .before
+    .before .phase5 .given .1) (c .before .before .write-clock .ensures)
 
 same-length-2 : tie.Need-same-length-2
 same-length-2 c = search needs
 
 returns-7 : tie.Need-returns-7
-returns-7 c = let a = c .before .before .before .before .before .before .args in at-phase (a .size) (a .guard) (a .reply) (a .self) (now (a .memory)) (a .high) (c .before .before .before .phase6 .given .1) (c .read-clock .ensures)
+returns-7 c = let a = c .before .before .before .before .before .before .args in at-phase (a .size) (a .select)
+    (a .guard) (a .reply) (a .self) (now (a .memory)) (a .high) (c .before .before .before .phase6 .given .1)
+    (c .read-clock .ensures)
 
 pub clock-on-spec : {M : Type 1} → statement M
 clock-on-spec =
@@ -98,7 +117,7 @@ clock-on-spec =
     (tie.spec
     enum-told
     enum-known-phase
-    slave-clock-requires
+    select-clock-requires
     turned-requires
     enum-known-phase-2
     high-clock-requires

@@ -20,7 +20,8 @@ other-requires : tie.Need-other-requires
 other-requires c κs = search needs
 
 returns-2 : tie.Need-returns-2
-returns-2 c = let a = c .before .before .before .args in c .other .ensures (a .size) (a .guard) (a .reply) (now (a .memory))
+returns-2 c = let a = c .before .before .before .args in c .other .ensures (a .size) (a .select) (a .guard) (a .reply)
+    (now (a .memory))
 
 pub happen-spec : {M : Type 1} → statement M
 happen-spec = tie.close (tie.spec clock-requires same-length returns other-requires returns-2)

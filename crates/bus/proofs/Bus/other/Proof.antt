@@ -41,49 +41,80 @@ powered-requires-2 c κs = search needs
 
 returns : tie.Need-returns
 unfolding happening eventOn lined
-returns c = λ size g y m. rw (c .with-phase .ensures, c .before .match2 .keys1, c .before .before .enum-told .given .1)
+returns c = λ size z g y m. rw (
+  c .with-phase .ensures,
+  c .before .match2 .keys1,
+  c .before .before .enum-told .given
+      .1,
+)
 
 returns-2 : tie.Need-returns-2
 unfolding happening eventOn lined
-returns-2 c = λ size g y m. rw (c .with-phase2 .ensures, c .before .match2 .keys2, c .before .before .enum-told .given .1)
+returns-2 c = λ size z g y m. rw (
+  c .with-phase2 .ensures,
+  c .before .match2 .keys2,
+  c .before .before .enum-told .given
+      .1,
+)
 
 returns-3 : tie.Need-returns-3
 unfolding happening eventOn lined
-returns-3 c = λ size g y m. rw (c .resting .ensures, c .before .match2 .keys3, c .before .before .enum-told .given .1)
+returns-3 c = λ size z g y m. rw (c .resting .ensures, c .before .match2 .keys3, c .before .before .enum-told .given .1)
 
 returns-4 : tie.Need-returns-4
 unfolding happening eventOn lined
-returns-4 c = λ size g y m. rw (c .resting2 .ensures, c .before .match2 .keys4, c .before .before .enum-told .given .1)
+returns-4 c = λ size z g y m. rw (
+  c .resting2 .ensures,
+  c .before .match2 .keys4,
+  c .before .before .enum-told .given
+      .1,
+)
 
 returns-5 : tie.Need-returns-5
 returns-5 c =
     let a = c .before .before .before .args in let p = c .before .before .before .pre in let n = c .match2 .rest in
-    λ size g y m. at-power size g y (a .self) m (happening (a .event)) (c .before .enum-told .given .1)
-    (same-on size g y (a .self) m (a .event) (below-ten _ (p .0)) (p .1) (n .0 .0 .0 .1) (n .0 .0 .1) (n .0 .1) (n .1))
+    λ size z g y m. at-power size z g y (a .self) m (happening (a .event)) (c .before .enum-told .given .1)
+    (same-on size z g y (a .self) m (a .event) (below-ten _ (p .0)) (p .1) (n .0 .0 .0 .1) (n .0 .0 .1) (n .0 .1) (n
+    .1))
 
 returns-6 : tie.Need-returns-6
 unfolding happening eventOn
-returns-6 c = λ size g y m. rw (c .resting3 .ensures, c .before .match3 .keys1, c .before .before .enum-told2 .given .1)
+returns-6 c = λ size z g y m. rw (
+  c .resting3 .ensures,
+  c .before .match3 .keys1,
+  c .before .before .enum-told2 .given
+      .1,
+)
 
 returns-7 : tie.Need-returns-7
 unfolding happening eventOn
-returns-7 c = λ size g y m. rw (c .powered .ensures, c .before .match3 .keys2, c .before .before .enum-told2 .given .1)
+returns-7 c = λ size z g y m. rw (
+  c .powered .ensures,
+  c .before .match3 .keys2,
+  c .before .before .enum-told2 .given
+      .1,
+)
 
 returns-8 : tie.Need-returns-8
 returns-8 c =
     let a = c .before .before .before .args in let p = c .before .before .before .pre in let n = c .match3 .rest in
-    λ size g y m. at-power size g y (a .self) m (happening (a .event)) (c .before .enum-told2 .given .1)
-    (same-backup size g y (a .self) m (a .event) (below-ten _ (p .0)) (p .1) (n .0 .1) (n .1))
+    λ size z g y m. at-power size z g y (a .self) m (happening (a .event)) (c .before .enum-told2 .given .1)
+    (same-backup size z g y (a .self) m (a .event) (below-ten _ (p .0)) (p .1) (n .0 .1) (n .1))
 
 returns-9 : tie.Need-returns-9
 unfolding happening eventOn
-returns-9 c = λ size g y m. rw (c .powered2 .ensures, c .before .match4 .keys1, c .before .before .enum-told3 .given .1)
+returns-9 c = λ size z g y m. rw (
+  c .powered2 .ensures,
+  c .before .match4 .keys1,
+  c .before .before .enum-told3 .given
+      .1,
+)
 
 returns-10 : tie.Need-returns-10
 returns-10 c =
     let a = c .before .before .before .args in let p = c .before .before .before .pre in let n = c .match4 .rest in
-    λ size g y m. at-power size g y (a .self) m (happening (a .event)) (c .before .enum-told3 .given .1)
-    (same-off size g y (a .self) m (a .event) (below-ten _ (p .0)) (p .1) (n .1))
+    λ size z g y m. at-power size z g y (a .self) m (happening (a .event)) (c .before .enum-told3 .given .1)
+    (same-off size z g y (a .self) m (a .event) (below-ten _ (p .0)) (p .1) (n .1))
 
 pub other-spec : {M : Type 1} → statement M
 other-spec =

@@ -11,15 +11,21 @@ use Rattle.bus.proofs.limits.slave_within.Tie as tie
 bits-fit-requires : tie.Need-bits-fit-requires
 bits-fit-requires c κs = search needs
 
-slave-names-requires : tie.Need-slave-names-requires
-slave-names-requires c κs = search needs
+names-for-requires : tie.Need-names-for-requires
+names-for-requires c κs = search needs
 
 answers-requires : tie.Need-answers-requires
 answers-requires c κs = search needs
 
 returns : tie.Need-returns
 unfolding phaseWithin
-returns c = λ first last. rw (c .before .before .before .bits-fit .ensures, c .answers .ensures, c .before .slave-names .ensures, c .before .before .if1 .taken)
+returns c = λ first last. rw (
+  c .before .before .before .bits-fit .ensures,
+  c .answers .ensures,
+  c .before
+      .names-for .ensures,
+  c .before .before .if1 .taken,
+)
 
 returns-2 : tie.Need-returns-2
 unfolding phaseWithin
@@ -27,4 +33,4 @@ returns-2 c = λ first last. rw (c .before .bits-fit .ensures, ne-eqb _ _ (c .if
 
 pub slave-within-spec : {M : Type 1} → statement M
 slave-within-spec =
-    tie.close (tie.spec bits-fit-requires slave-names-requires answers-requires returns returns-2)
+    tie.close (tie.spec bits-fit-requires names-for-requires answers-requires returns returns-2)

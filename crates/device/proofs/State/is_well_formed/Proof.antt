@@ -3,6 +3,7 @@
 -- Assumes nothing.
 use mathlib.Core.Path.{_∙_}
 use borrow.Author.Needs.{needs}
+use Rattle.bus.proofs.Lone.{lone-within}
 use Rattle.device.specs.Limits.{wellFormed}
 use Rattle.device.proofs.Entry.{phase-from-zero}
 use Rattle.device.proofs.State.is_well_formed.Statement.{statement}
@@ -19,7 +20,13 @@ power-within-requires c κs = search needs
 
 returns : tie.Need-returns
 unfolding wellFormed
-returns c = rw (c .power-within .ensures, c .before .phase-within .ensures ∙ phase-from-zero _, c .before .before .is-within .ensures)
+returns c =
+    let p = c .before in
+    rw (
+      c .power-within .ensures,
+      p .phase-within .ensures ∙ (lone-within _ _ ∙ phase-from-zero _),
+      p .before .is-within .ensures,
+    )
 
 pub is-well-formed-spec : {M : Type 1} → statement M
 is-well-formed-spec =

@@ -30,7 +30,7 @@ returns c =
     let v = h .before .before .before in
     let g = v .before .before in
     let a = g .before .before .before .before .args in
-    advanced (a .size) (a .self) _ _ (a .event) _ _ _ _ _ (g .guard .ensures) (v .before .asks .ensures)
+    advanced (a .size) (a .select) (a .self) _ _ (a .event) _ _ _ _ _ (g .guard .ensures) (v .before .asks .ensures)
     (v .serve .ensures) (h .happen .ensures) (c .answer-byte .ensures)
 
 pub advance-spec : {M : Type 1} → statement M

@@ -19,7 +19,7 @@ refused-requires c κs = search needs
 returns : tie.Need-returns
 returns c =
     let z = c .before .before .size-of .ensures in
-    rw (step-wrong-memory _ _ _ _ (rw z at (c .before .if1 .taken)), c .refused .ensures)
+    rw (step-wrong-memory _ _ _ _ _ (rw z at (c .before .if1 .taken)), c .refused .ensures)
 
 is-well-formed-requires : tie.Need-is-well-formed-requires
 is-well-formed-requires c κs = search needs
@@ -28,7 +28,7 @@ advance-requires : tie.Need-advance-requires
 advance-requires c κs =
     let t = c .before .before in
     let w = sym (t .before .is-well-formed .ensures) ∙ t .if2 .taken in
-    (ready _ _ _ (t .before .before .if1 .left) w, c .before .if3 .taken)
+    (ready _ _ _ _ (t .before .before .if1 .left) w, c .before .if3 .taken)
 
 same-length : tie.Need-same-length
 same-length c = search needs
@@ -40,7 +40,7 @@ returns-2 c =
     let w = sym (t .before .is-well-formed .ensures) ∙ t .if2 .taken in
     rw (
       ← t .before .before .before .size-of .ensures,
-      step-answered _ _ _ _ (t .before .before .if1 .left) w (d .before .before .if3 .taken),
+      step-answered _ _ _ _ _ (t .before .before .if1 .left) w (d .before .before .if3 .taken),
       d .advance .ensures .result,
       d .advance .ensures .memory,
     )
@@ -54,7 +54,7 @@ returns-3 c =
     let w = sym (t .before .is-well-formed .ensures) ∙ t .if2 .taken in
     rw (
       ← t .before .before .before .size-of .ensures,
-      step-unknown-event _ _ _ _ (t .before .before .if1 .left) w (c .before .if3 .left),
+      step-unknown-event _ _ _ _ _ (t .before .before .if1 .left) w (c .before .if3 .left),
       c .refused2 .ensures,
     )
 
@@ -67,7 +67,7 @@ returns-4 c =
     let w = sym (t .before .is-well-formed .ensures) ∙ t .if2 .left in
     rw (
       ← t .before .before .before .size-of .ensures,
-      step-wrong-state _ _ _ _ (t .before .before .if1 .left) w,
+      step-wrong-state _ _ _ _ _ (t .before .before .if1 .left) w,
       c .refused3 .ensures,
     )
 

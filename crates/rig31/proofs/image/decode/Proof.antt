@@ -26,7 +26,8 @@ held c = c .before .before .before .before .before .read .result
 
 -- the limits hold; what the state writes is the image, or is not
 limits : (c : tie.Else2)
-    → wellFormed (c .before .before .before .before .before .args .size) (c .before .before .read .result) ≡ true
+    → (let a = c .before .before .before .before .before .args in
+    wellFormed (a .size) (a .select) (c .before .before .read .result) ≡ true)
 limits c = sym (c .before .is-well-formed .ensures) ∙ not-false _ (c .if2 .left)
 
 written : (c : tie.Else3) → sameBytes (imageOf (held (c .before))) (image (c .before)) ≡ true
@@ -38,7 +39,9 @@ written-not c =
     rw (← c .before .before .before .image-of .ensures) (sym (c .before .same .ensures) ∙ not-true _ (c .if3 .taken))
 
 returns : tie.Need-returns
-returns c = let z = c .before .before .args .size in decode-settled z _ Bad (decode-length z _ (c .if1 .taken))
+returns c =
+    let a = c .before .before .args in
+    decode-settled (a .size) (a .select) _ Bad (decode-length (a .size) (a .select) _ (c .if1 .taken))
 
 read-requires : tie.Need-read-requires
 read-requires c κs = search needs
@@ -50,8 +53,8 @@ returns-2 : tie.Need-returns-2
 returns-2 c =
     let s = c .before .before .read in
     let l = sym (c .before .is-well-formed .ensures) ∙ not-true _ (c .if2 .taken) in
-    let z = c .before .before .before .before .before .args .size in
-    decode-settled z _ Bad (decode-limits z _ (s .result) (s .ensures) l)
+    let a = c .before .before .before .before .before .args in
+    decode-settled (a .size) (a .select) _ Bad (decode-limits (a .size) (a .select) _ (s .result) (s .ensures) l)
 
 image-of-requires : tie.Need-image-of-requires
 image-of-requires c κs = search needs
@@ -66,16 +69,18 @@ returns-3 : tie.Need-returns-3
 returns-3 c =
     let s = c .before .before .before .before .before .before .read in
     let i = image (c .before) in
-    let z = c .before .before .before .before .before .before .before .before .before .args .size in
-    decode-settled z i Bad (decode-differs z i (s .result) (s .ensures) (written-not c))
+    let a = c .before .before .before .before .before .before .before .before .before .args in
+    decode-settled (a .size) (a .select) i Bad
+    (decode-differs (a .size) (a .select) i (s .result) (s .ensures) (written-not c))
 
 returns-4 : tie.Need-returns-4
 returns-4 c =
     let s = c .before .before .before .before .before .before .read in
     let i = image (c .before) in
     let l = limits (c .before .before .before .before) in
-    let z = c .before .before .before .before .before .before .before .before .before .args .size in
-    decode-settled z i (Good (s .result)) (decode-good z i (s .result) (s .ensures) l (written c))
+    let a = c .before .before .before .before .before .before .before .before .before .args in
+    decode-settled (a .size) (a .select) i (Good (s .result))
+    (decode-good (a .size) (a .select) i (s .result) (s .ensures) l (written c))
 
 pub decode-spec : {M : Type 1} → statement M
 decode-spec =

@@ -7,6 +7,7 @@ use denote.Ref.{now}
 use lib.ListN.{length}
 use borrow.Author.Needs.{needs}
 use borrow.Author.Tests.{not-true, not-false}
+use Rattle.family.specs.Chip.{lone}
 use Rattle.rig31.specs.declared.Decoded.the-variants.{Good}
 use Rattle.rig31.specs.Run.{allKnown}
 use Rattle.rig31.specs.Image.{decodeOf}
@@ -21,8 +22,8 @@ abbrev start : tie.After-state → tie.Start
 start c = c .before .before .before .before .before .before .before .before .before
 
 read : (c : tie.After-state)
-    → decodeOf (start c .args .size) (now (start c .args .image)) ≡ Good (c .state .given .0 .0)
-read c = settled-decode _ _ _ (c .before .before .decode .ensures) ∙ c .state .given .1
+    → decodeOf (start c .args .size) lone (now (start c .args .image)) ≡ Good (c .state .given .0 .0)
+read c = settled-decode _ _ _ _ (c .before .before .decode .ensures) ∙ c .state .given .1
 
 long : (c : tie.After-state) → length (now (start c .args .memory)) ≡ start c .args .size
 long c = c .before .before .before .before .if1 .left
@@ -54,7 +55,7 @@ same-length c = search needs
 
 returns-2 : tie.Need-returns-2
 returns-2 c =
-    let b = settled-decode _ _ _ (c .before .before .decode .ensures) ∙ c .enum-told .given .1 in
+    let b = settled-decode _ _ _ _ (c .before .before .decode .ensures) ∙ c .enum-told .given .1 in
     sym (outcome-wrong-image _ _ _ _ _ (c .before .before .before .before .if1 .left) b)
 
 all-known-requires : tie.Need-all-known-requires
@@ -86,14 +87,14 @@ returns-4 c =
 run-events-requires : tie.Need-run-events-requires
 run-events-requires c κs =
     let d = c .before .before .before .before .before .before in (
-      (image-decode _ _ _ (read d) .0, long d, start d .pre),
+      (image-decode _ _ _ _ (read d) .0, long d, start d .pre),
       (known (c .before .before .before), c .before .before .if3 .left),
     )
 
 write-image-requires : tie.Need-write-image-requires
 write-image-requires c κs =
     let t = c .before .before .before .before .before .before .before .before in
-    decoded-length _ _ _ (read (t .before .before .before .before))
+    decoded-length _ _ _ _ (read (t .before .before .before .before))
 
 cast-result-5 : tie.Need-cast-result-5
 cast-result-5 c = search needs

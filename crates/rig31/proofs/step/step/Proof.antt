@@ -6,6 +6,7 @@ use denote.Ref.{now}
 use lib.ListN.{length}
 use borrow.Author.Needs.{needs}
 use Rattle.family.proofs.Entry.{ready}
+use Rattle.family.specs.Chip.{lone}
 use Rattle.rig31.specs.declared.Decoded.the-variants.{Good}
 use Rattle.rig31.specs.Image.{decodeOf}
 use Rattle.rig31.proofs.Images.{settled-decode, image-decode, decoded-length}
@@ -19,8 +20,8 @@ abbrev start : tie.After-state → tie.Start
 start c = c .before .before .before .before .before .before .before .before
 
 read : (c : tie.After-state)
-    → decodeOf (start c .args .size) (now (start c .args .image)) ≡ Good (c .state .given .0 .0)
-read c = settled-decode _ _ _ (c .before .before .decode .ensures) ∙ c .state .given .1
+    → decodeOf (start c .args .size) lone (now (start c .args .image)) ≡ Good (c .state .given .0 .0)
+read c = settled-decode _ _ _ _ (c .before .before .decode .ensures) ∙ c .state .given .1
 
 long : (c : tie.After-state) → length (now (start c .args .memory)) ≡ start c .args .size
 long c = c .before .before .before .before .if1 .left
@@ -48,7 +49,7 @@ same-length c = search needs
 
 returns-2 : tie.Need-returns-2
 returns-2 c =
-    let b = settled-decode _ _ _ (c .before .before .decode .ensures) ∙ c .enum-told .given .1 in
+    let b = settled-decode _ _ _ _ (c .before .before .decode .ensures) ∙ c .enum-told .given .1 in
     sym (single-wrong-image _ _ _ _ _ (c .before .before .before .before .if1 .left) b)
 
 cast-if2 : tie.Need-cast-if2
@@ -82,7 +83,7 @@ cast-advance c = search needs
 advance-requires : tie.Need-advance-requires
 advance-requires c κs =
     let d = c .before .before .before .before in
-    (ready _ _ _ (long d) (image-decode _ _ _ (read d) .0), c .before .before .if2 .left)
+    (ready _ _ _ _ (long d) (image-decode _ _ _ _ (read d) .0), c .before .before .if2 .left)
 
 slice-write-told : tie.Need-slice-write-told
 slice-write-told c = search needs
@@ -90,7 +91,7 @@ slice-write-told c = search needs
 write-image-requires : tie.Need-write-image-requires
 write-image-requires c κs =
     let r = c .before .before .before .before .before .before in
-    decoded-length _ _ _ (read (r .before .before .before))
+    decoded-length _ _ _ _ (read (r .before .before .before))
 
 cast-result-5 : tie.Need-cast-result-5
 cast-result-5 c = search needs

@@ -1,0 +1,57 @@
+// SPDX-License-Identifier: Apache-2.0
+// The slave byte of a part with select bits. Its bits 2 and 1 must be the part's; the byte without them is the FM3130's.
+ghost use mathlib.Core.Path.{_≡_};
+ghost use Rattle.wire.specs.Clock.{received};
+ghost use Rattle.wire.specs.Kinds.{slaveByte};
+ghost use Rattle.wire.specs.Outcome.{turnedOf};
+ghost use Rattle.bus.specs.Select.{slaveNamesFor};
+use wire::Named;
+use wire::Phase;
+use wire::Turned;
+use wire::between::keep;
+use wire::bits::push;
+use wire::slave::answers;
+use wire::slave::slave_clock;
+use wire::slave::slave_names;
+
+// Whom a slave byte names: 1010 0ssx the memory, 1101 0ssx the companion, where ss are the part's select bits.
+pub fn names_for(select: u8, byte: u8) -> Named
+    ensures { λ r. ⌜ r ≡ slaveNamesFor select byte ⌝ }
+{
+    let chosen = byte / 2 % 4;
+    if chosen == select {
+        return slave_names(byte - 2 * chosen);
+    }
+    Named::Nobody
+}
+
+// A Clock in a slave byte: before its eighth clock, and at its acknowledge, as without select bits.
+pub(crate) fn select_clock(select: u8, clocks: u8, byte: u8, high: bool) -> Turned
+    ensures { λ r. ⌜ r ≡ turnedOf (received (slaveByte (slaveNamesFor select)) tt clocks byte high) ⌝ }
+{
+    if clocks < 7 {
+        return slave_clock(clocks, byte, high);
+    }
+    if clocks == 7 {
+        let whole = push(byte, high);
+        let acknowledged = answers(names_for(select, whole));
+        return Turned {
+            phase: keep(
+                acknowledged,
+                Phase::Slave {
+                    clocks: 8,
+                    byte: whole,
+                },
+            ),
+            line: high,
+        };
+    }
+    let chosen = byte / 2 % 4;
+    if chosen == select {
+        return slave_clock(clocks, byte - 2 * chosen, high);
+    }
+    Turned {
+        phase: Phase::Idle,
+        line: false,
+    }
+}
