@@ -5,14 +5,13 @@ use Prim.Native.Nat.{ℕ}
 use mathlib.Core.Path.{_≡_, refl, sym, ap, subst, _∙_}
 use mathlib.Core.Bool.{Bool, true, false, cond}
 use mathlib.Core.List.{List, [], _∷_}
-use Rattle.counters.specs.Lock.{Locked, SerialKept}
-use Rattle.counters.specs.declared.Counters.{Counters}
+use Rattle.counters.specs.Lock.{SerialKept}
 use Rattle.family.specs.Run.{runOf}
 use Rattle.family.proofs.Lock.{serial-locked}
 use Rattle.merging.specs.Merge.{keepIf}
 use Rattle.set31.specs.Set.{Held, Together, Place, first, second, third, fourth, numberOf, at, hears, ownByte}
-use Rattle.set31.specs.Set.{sizeIn, selectIn, doneIn, afterOwn, afterAt, afterEvent, afterEvents}
-use Rattle.ensemble.specs.Alone.{heardBy, alone, aloneLines, AsAlone, countersIn, SerialLockedIn}
+use Rattle.set31.specs.Set.{sizeIn, selectIn, afterOwn, afterAt, afterEvent, afterEvents}
+use Rattle.ensemble.specs.Alone.{heardBy, alone, AsAlone, countersIn, SerialLockedIn}
 
 pub at-after : (t : Together) (v : Place) (e : ℕ) → at v (afterEvent t e) ≡ afterAt (t .set .count) (numberOf v) (at
     v t) e

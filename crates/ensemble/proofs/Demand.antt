@@ -1,24 +1,20 @@
 -- SPDX-License-Identifier: Apache-2.0
 -- Demand 3 of each device of a set, from that of devices on a wire (`wired`). A powered device's event is its
--- machine's event
--- (`own-event`), by computation; so a set does what the wire does (`set-run`, `set-lines`).
+-- machine's event (`own-event`), by computation; so a set does what the wire does (`set-run`, `set-lines`).
 -- Assumes nothing.
 use Prim.Native.Nat.{ℕ, _+_, _*_}
 use mathlib.Core.Path.{_≡_, refl, sym, ap, subst, _∙_}
-use mathlib.Core.Bool.{Bool, true, false, cond, _&&_, _||_}
-use mathlib.Core.List.{List, [], _∷_, map}
-use lib.Dec.{eqb, ltb}
+use mathlib.Core.Bool.{Bool, true, false, cond, _&&_}
+use mathlib.Core.List.{List, [], _∷_}
+use lib.Dec.{ltb}
 use Rattle.wire.specs.Slave.{answers}
 use Rattle.wire.specs.Memory.{lent}
-use Rattle.wire.specs.Machine.{Parts, Line, Event, line, tick, State, step, lined}
+use Rattle.wire.specs.Machine.{Line, Event, line, tick, State, step}
 use Rattle.wire.specs.declared.Side.{Side}
-use Rattle.wire.specs.declared.Side.the-variants.{Memory, Companion}
 use Rattle.wire.specs.declared.Named.{Named}
 use Rattle.wire.specs.declared.Named.the-variants.{Nobody, Reads, Writes}
-use Rattle.wire.specs.declared.Phase.the-variants.{Idle}
 use Rattle.counters.specs.Part.{guardOf}
 use Rattle.bus.specs.Select.{slaveNamesFor}
-use Rattle.bus.specs.Desk.{partOf}
 use Rattle.bus.specs.Event.{happening, beat, Done, doneOf, eventOn}
 use Rattle.bus.specs.declared.Beat.{Beat}
 use Rattle.bus.specs.declared.Beat.the-variants.{Second, Cnt1, Cnt2}
@@ -28,26 +24,25 @@ use Rattle.family.specs.Chip.{companion31}
 use Rattle.parts.specs.Events.{beatByte}
 use Rattle.larger.proofs.Demand3.{only-writes}
 use Rattle.family.specs.Step.{stateOf}
-use Rattle.merging.specs.Merge.{between}
 use Rattle.merging.specs.Party.{to, foreign, MayName, isMemory, isCompanion}
 use Rattle.merging.specs.Apart.{run, answersOf}
 use Rattle.merging.specs.Demand.{IfWritten, WritesSteady}
-use Rattle.wired.specs.Wire.{Heard, nothing, this, told, Bench, Lawful, Seat, Word, says, ticks, Turns}
+use Rattle.wired.specs.Wire.{Heard, nothing, this, told, Bench, Lawful, Word, says, ticks}
 use Rattle.wired.specs.Wire.{Devices, stepWire, runWire, lineBy, wireLine, wireLines, pickedFor, memoryList}
 use Rattle.wired.specs.Wire.{companionList, OnWire}
 use Rattle.wired.specs.Wire as wire
-use Rattle.wired.proofs.Wire.{on-wire, by-bool, not-true}
+use Rattle.wired.proofs.Wire.{on-wire, not-true}
 use Rattle.set31.specs.Set.{Held, held, Together, Place, first, second, third, fourth, numberOf, at, sizeIn}
 use Rattle.set31.specs.Set.{selectIn, hears, ownByte, doneIn, afterOwn, afterAt, lineAt, afterEvent, lineTo}
 use Rattle.set31.specs.Set.{afterEvents, linesTo}
 use Rattle.ensemble.specs.Alone.{alone, aloneLines, countersIn}
-use Rattle.ensemble.specs.Transaction.{lineByte, samePlace, Here, Between, Unlike}
+use Rattle.ensemble.specs.Transaction.{lineByte, samePlace, Unlike}
 use Rattle.ensemble.specs.Demand.{Told, Device, Tock, second-passed, edge-one, edge-two, onlyIf, hearAt}
 use Rattle.ensemble.specs.Demand.{tockByte, among, allOf, partAt, bench}
-use Rattle.ensemble.specs.Demand.{wordByte, wordBytes, ownByteOf, ownBytes, WritesSteadyIn, Powered}
-use Rattle.ensemble.specs.Demand.{Demanded, DemandThree}
+use Rattle.ensemble.specs.Demand.{wordByte, wordBytes, ownByteOf, ownBytes, WritesSteadyIn}
+use Rattle.ensemble.specs.Demand.{DemandThree}
 use Rattle.ensemble.proofs.Alone.{at-after}
-use Rattle.ensemble.proofs.Transaction.{other-names, line-event, line-heard, place-is, after-here, line-here}
+use Rattle.ensemble.proofs.Transaction.{other-names, line-event, after-here, line-here}
 use Rattle.ensemble.proofs.Transaction.{line-away, low-one, low-two, low-three, low-four}
 
 -- devices on the line

@@ -2,20 +2,20 @@
 -- A set that is not refused is between transfers, and no two of its devices have the same selects.
 -- Assumes nothing.
 use Prim.Native.Nat.{ℕ}
-use mathlib.Core.Path.{_≡_, refl, sym, ap, subst, _∙_}
+use mathlib.Core.Path.{_≡_, refl, sym, ap, _∙_}
 use mathlib.Core.Bool.{Bool, true, false, cond, _&&_, not}
 use native.Mathlib.Omega.{arith}
-use lib.Dec.{eqb, ltb, leb}
+use lib.Dec.{leb}
 use borrow.Author.Tests.{eq-eqb}
 use Rattle.wire.specs.declared.Phase.{Phase}
 use Rattle.wire.specs.declared.Phase.the-variants.{Idle, Slave, AddressHigh, AddressLow, Pointer, Write, Read}
 use Rattle.wire.proofs.Tests.{and-split}
 use Rattle.bus.specs.Limits.{isIdle}
 use Rattle.wired.proofs.Wire.{not-true}
-use Rattle.set31.specs.Set.{Held, Together, Place, first, second, third, fourth, numberOf, at, selectIn}
+use Rattle.set31.specs.Set.{Held, Together, first, second, third, fourth, numberOf, at, selectIn}
 use Rattle.set31.specs.Make.{isLent, isWithin, isBetween, ifHere, placesAre, differ, selectsDiffer, makeNumber}
 use Rattle.set31.proofs.Facts.{here-is, place-has, three-of}
-use Rattle.ensemble.specs.Transaction.{samePlace, Here, Between, Unlike, Made}
+use Rattle.ensemble.specs.Transaction.{Unlike, Made}
 
 zero-of : (b : Bool) (x k : ℕ) → (k ≡ 0 → ⊥) → cond b x k ≡ 0 → (b ≡ true) × (x ≡ 0)
 zero-of true x k d e = (refl, e)

@@ -1,22 +1,22 @@
 -- SPDX-License-Identifier: Apache-2.0
 -- A whole transaction of one device leaves the others as they were, and the line is that device's.
 -- Assumes nothing.
-use Prim.Native.Nat.{ℕ, _-_, _*_, _/_, _%_}
+use Prim.Native.Nat.{ℕ, _-_, _*_}
 use mathlib.Core.Path.{_≡_, refl, sym, ap, subst, _∙_}
-use mathlib.Core.Bool.{Bool, true, false, cond, _&&_, _||_, not}
-use mathlib.Core.List.{List, [], _∷_, map}
+use mathlib.Core.Bool.{Bool, true, false, cond, _&&_}
+use mathlib.Core.List.{List, [], _∷_}
 use lib.Dec.{eqb, ltb}
-use borrow.Author.Tests.{eqb-true, eqb-false, eq-eqb, ne-eqb}
+use borrow.Author.Tests.{eqb-true, ne-eqb}
 use Rattle.wire.specs.Slave.{slaveNames, answers}
 use Rattle.wire.specs.Memory.{lent}
-use Rattle.wire.specs.Machine.{Parts, Line, start, stop, clock, Out, out, lined, mastersLine}
+use Rattle.wire.specs.Machine.{Parts, Line, start, stop, clock, lined, mastersLine}
 use Rattle.wire.specs.declared.Named.{Named}
-use Rattle.wire.specs.declared.Named.the-variants.{Nobody, Reads, Writes}
+use Rattle.wire.specs.declared.Named.the-variants.{Nobody}
 use Rattle.wire.specs.declared.Phase.{Phase}
 use Rattle.wire.specs.declared.Phase.the-variants.{Idle}
 use Rattle.bus.specs.Select.{selectOf, slaveNamesFor}
 use Rattle.bus.specs.Desk.{Desks, partOf}
-use Rattle.bus.specs.Event.{happening, onWire, Done, done, doneOf, eventOn, eventOf}
+use Rattle.bus.specs.Event.{happening, Done, done, doneOf, eventOn, eventOf}
 use Rattle.bus.specs.declared.Bus.{Bus}
 use Rattle.bus.specs.declared.Power.{Power}
 use Rattle.bus.specs.declared.Power.the-variants.{On, Backup, Off}
@@ -29,9 +29,9 @@ use Rattle.family.specs.Chip.{companion31}
 use Rattle.family.specs.Step.{stateOf}
 use Rattle.set31.specs.Set.{Held, held, Together, Place, first, second, third, fourth, numberOf, at, sizeIn}
 use Rattle.set31.specs.Set.{selectIn, hears, ownByte, doneIn, afterOwn, afterAt, lineAt, afterEvent, lineTo}
-use Rattle.set31.specs.Set.{afterEvents, linesTo}
+use Rattle.set31.specs.Set.{linesTo}
 use Rattle.ensemble.specs.Alone.{heardBy, alone, aloneLines}
-use Rattle.ensemble.specs.Transaction.{lineByte, lineBytes, WholeLines, NamesIt, samePlace, Here, Between}
+use Rattle.ensemble.specs.Transaction.{lineByte, lineBytes, WholeLines, NamesIt, samePlace, Here}
 use Rattle.ensemble.specs.Transaction.{Unlike, TransactionLeaves, TransactionLine}
 use Rattle.ensemble.proofs.Alone.{at-after, as-alone}
 

@@ -1,7 +1,6 @@
 -- SPDX-License-Identifier: Apache-2.0
 -- 02, number 12: "5)'s statements hold for each device". Each device of a set does exactly what it does alone on
--- the events that
--- it hears, whatever the others are and do; so the lock of its serial number holds in the set.
+-- the events that it hears, whatever the others are and do; so the lock of its serial number holds in the set.
 --   heardBy                       what a device hears of a list, as its own event bytes
 --   alone, aloneLines             a device alone on a list of its own event bytes
 --   AsAlone, LinesAsAlone         each device does as alone; the line is low if one of them, alone, pulls it low
@@ -9,13 +8,13 @@
 -- Assumes nothing.
 use Prim.Native.Nat.{ℕ}
 use mathlib.Core.Path.{_≡_}
-use mathlib.Core.Bool.{Bool, true, false, _&&_}
+use mathlib.Core.Bool.{Bool}
 use mathlib.Core.List.{List, [], _∷_}
 use Rattle.counters.specs.Lock.{Locked, SerialKept}
 use Rattle.counters.specs.declared.Counters.{Counters}
 use Rattle.merging.specs.Merge.{keepIf}
-use Rattle.set31.specs.Set.{Held, Together, Place, first, second, third, fourth, numberOf, at, hears, ownByte}
-use Rattle.set31.specs.Set.{doneIn, afterOwn, lineAt, afterEvents, lineTo, linesTo}
+use Rattle.set31.specs.Set.{Held, Together, Place, numberOf, at, hears, ownByte}
+use Rattle.set31.specs.Set.{doneIn, afterOwn, afterEvents}
 
 abbrev pub heardBy : ℕ → ℕ → List ℕ → List ℕ
 heardBy n v [] = []

@@ -1,7 +1,6 @@
 -- SPDX-License-Identifier: Apache-2.0
 -- 02, number 12: "Demand 3 then speaks of each device with its own lists, merged with those of the others; inside a
--- transaction
--- of one device, of the others' lists only ticks and counter edges fall."
+-- transaction of one device, of the others' lists only ticks and counter edges fall."
 --   On, Device                  a device on the line
 --   Tock, tockByte              ticks, which reach all, and edges, which name their device
 --   bench                       the set as devices on a wire (`wired`)
@@ -118,9 +117,8 @@ abbrev pub Powered : Together → Type 0
 Powered t = (v : Device (t .set .count)) → at (v .place) t .member .state .bus .power ≡ power.On
 
 -- Of a merged list: memory, memory address and the set's lines in the memory transactions of a device are as if its
--- first list had
--- run on that device alone; its companion, with its address, and the set's lines in its companion transactions and
--- at its ticks
+-- first list had run on that device alone; its companion, with its address, and the set's lines in its companion
+-- transactions and at its ticks
 -- and edges, as if its second list had.
 pub record Demanded (t : Together) (v : Device (t .set .count)) (l : List (Word (Device (t .set .count)) Tock)) :
     Type 0 where

@@ -1,7 +1,6 @@
 -- SPDX-License-Identifier: Apache-2.0
 -- 02, number 12: "a whole transaction begun between transfers, its slave bytes all naming one device, leaves the
--- others, once
--- ended, as they were".
+-- others, once ended, as they were".
 --   lineByte, lineBytes      the event bytes of Start, Stop and Clock
 --   WholeLines               whole transactions, all of whose complete slave bytes are as asked
 --   NamesIt                  a slave byte that names a device, its memory or its companion

@@ -2,26 +2,24 @@
 -- One event on one device of a set, and on the set, from what the code finds.
 -- Assumes nothing.
 use Prim.Native.Nat.{ℕ, _≤_, _%_, _+_, _/_}
-use mathlib.Core.Path.{_≡_, refl, sym, ap, subst, _∙_}
+use mathlib.Core.Path.{_≡_, refl, ap, subst, _∙_}
 use mathlib.Core.Bool.{Bool, true, false, cond, _&&_, _||_}
 use mathlib.Core.List.{List}
 use native.Mathlib.Omega.{arith}
 use lib.Dec.{eqb, ltb}
 use lib.ListN.{length}
-use borrow.Author.Tests.{eqb-true, ltb-true, lt-ltb, le-ltb}
+use borrow.Author.Tests.{eqb-true, ltb-true}
 use Rattle.wire.proofs.Tests.{and-split}
 use Rattle.family.specs.Limits.{wellFormed}
-use Rattle.family.specs.Step.{Ready, AnsweredWith, answerByte, stateOf}
-use Rattle.family.specs.Chip.{sizeOf, eventOf}
+use Rattle.family.specs.Step.{Ready, AnsweredWith, answerByte}
+use Rattle.family.specs.Chip.{eventOf}
 use Rattle.family.specs.declared.Answered.{Answered}
-use Rattle.family.specs.declared.Size.{Size}
 use Rattle.family.proofs.Entry.{ready}
 use Rattle.set31.specs.Set.{Held, held, Together, first, second, third, fourth, at, sizeIn, selectIn, hears}
-use Rattle.set31.specs.Set.{ownByte, doneIn, afterAt, lineAt}
-use Rattle.set31.specs.Make.{isLent, isWithin, placesAre}
-use Rattle.set31.specs.Outcome.{Fit, HeardAs, lentTo, SetFit, HappenedAs}
+use Rattle.set31.specs.Set.{ownByte, doneIn}
+use Rattle.set31.specs.Make.{isLent, isWithin}
+use Rattle.set31.specs.Outcome.{Fit, HeardAs, SetFit, HappenedAs}
 use Rattle.set31.specs.declared.Heard.{Heard}
-use Rattle.set31.specs.declared.Set.{Set}
 use Rattle.set31.proofs.Facts.{here-is, place-has}
 
 pub heard-here : (n v e : ℕ) → hears n v e ≡ true → ltb v n ≡ true

@@ -5,7 +5,7 @@ use Prim.Native.Nat.{ℕ}
 use mathlib.Core.Path.{_≡_, refl}
 use mathlib.Core.Bool.{Bool, true, false, cond, _&&_}
 use lib.Dec.{ltb}
-use Rattle.wire.proofs.Tests.{and-split, and-join}
+use Rattle.wire.proofs.Tests.{and-split}
 use Rattle.set31.specs.Set.{Held, Together, Place, first, second, third, fourth, numberOf, at}
 use Rattle.set31.specs.Make.{ifHere, allHere, placesAre}
 

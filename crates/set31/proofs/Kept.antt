@@ -1,7 +1,6 @@
 -- SPDX-License-Identifier: Apache-2.0
 -- Every event keeps each device of a set within its limits, with all its memory; and the ways through the tests of
--- a set
--- that is made.
+-- a set that is made.
 -- Assumes nothing.
 use Prim.Native.Nat.{ℕ}
 use mathlib.Core.Path.{_≡_}

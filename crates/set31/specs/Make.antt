@@ -1,7 +1,6 @@
 -- SPDX-License-Identifier: Apache-2.0
 -- Which sets are refused when they are made (02, number 12: "Equal selects, or a device not between transfers, are
--- refused when
--- the set is made"), by the first number that fits:
+-- refused when the set is made"), by the first number that fits:
 --   1   a memory of the wrong length for its device's size
 --   2   a device outside its limits, its select bits above 3 too
 --   9   a count that is not 1 to 4
@@ -14,7 +13,7 @@
 --   makeNumber                    the number
 -- Assumes nothing.
 use Prim.Native.Nat.{ℕ}
-use mathlib.Core.Bool.{Bool, true, false, cond, _&&_, not}
+use mathlib.Core.Bool.{Bool, true, cond, _&&_, not}
 use lib.Dec.{eqb, ltb, leb}
 use lib.ListN.{length}
 use Rattle.bus.specs.Limits.{isIdle}

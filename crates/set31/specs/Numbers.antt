@@ -1,7 +1,6 @@
 -- SPDX-License-Identifier: Apache-2.0
 -- The numbers that a set adds to those of its devices (02, number 12: "Equal selects, or a device not between
--- transfers,
--- are refused when the set is made").
+-- transfers, are refused when the set is made").
 -- Assumes nothing.
 use Prim.Native.Nat.{ℕ}
 

@@ -3,11 +3,10 @@
 -- Assumes nothing.
 use Prim.Native.Nat.{ℕ}
 use mathlib.Core.Path.{_≡_}
-use mathlib.Core.Bool.{Bool, true}
+use mathlib.Core.Bool.{true}
 use mathlib.Core.List.{List}
 use Rattle.set31.specs.Set.{Held, held, Together, afterAt, lineAt, afterEvent, lineTo}
 use Rattle.set31.specs.Make.{isLent, isWithin, ifHere, placesAre}
-use Rattle.set31.specs.declared.Member.{Member}
 use Rattle.set31.specs.declared.Set.{Set}
 use Rattle.set31.specs.declared.Heard.{Heard}
 use Rattle.set31.specs.declared.Happened.{Happened}

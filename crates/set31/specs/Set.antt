@@ -7,7 +7,7 @@
 --   afterEvents, linesTo           a list of events
 -- Assumes nothing.
 use Prim.Native.Nat.{ℕ, _+_, _/_, _%_}
-use mathlib.Core.Bool.{Bool, true, false, cond, _&&_, _||_}
+use mathlib.Core.Bool.{Bool, true, cond, _&&_, _||_}
 use mathlib.Core.List.{List, [], _∷_}
 use lib.Dec.{eqb, ltb}
 use Rattle.family.specs.Chip.{sizeOf, Done, eventOf}
@@ -52,8 +52,7 @@ abbrev pub selectIn : Held → ℕ
 selectIn h = h .member .select
 
 -- "Ticks and power events reach all four, and a counter edge names its device": of n devices, the one at place v
--- hears event
--- bytes 0 to 7; 8 and 9 are the first device's edges, 10 and 11 the second's, and so on.
+-- hears event bytes 0 to 7; 8 and 9 are the first device's edges, 10 and 11 the second's, and so on.
 unfoldable pub hears : ℕ → ℕ → ℕ → Bool
 hears n v e = ltb v n && (ltb e 8 || eqb (e / 2) (v + 4))
 

@@ -1,18 +1,17 @@
 -- SPDX-License-Identifier: Apache-2.0
 -- Of two devices one is idle, or both are in the same slave byte, before its acknowledge (`Clear`); every event
--- keeps that, since
--- no slave byte names both.
+-- keeps that, since no slave byte names both.
 -- Assumes nothing.
 use Prim.Native.Nat.{ℕ, _+_, _<_}
 use mathlib.Core.Path.{_≡_, refl, sym, subst}
-use mathlib.Core.Bool.{Bool, true, false}
+use mathlib.Core.Bool.{Bool, false}
 use mathlib.Core.List.{List, [], _∷_}
 use native.Mathlib.Omega.{arith}
 use Rattle.wire.specs.Bits.{pushed, Place, first, within, last, ack, placeAt}
 use Rattle.wire.specs.Slave.{answers}
 use Rattle.wire.specs.Clock.{receivedAt, kept}
 use Rattle.wire.specs.Kinds.{slaveByte}
-use Rattle.wire.specs.Machine.{Parts, Line, start, stop, clock, line, tick, State, clocked, lined, step}
+use Rattle.wire.specs.Machine.{Parts, Line, start, stop, clock, line, State, clocked, lined}
 use Rattle.wire.specs.Machine.{mastersLine}
 use Rattle.wire.specs.declared.Side.{Side}
 use Rattle.wire.specs.declared.Side.the-variants.{Memory, Companion}
@@ -25,7 +24,7 @@ use Rattle.merging.specs.Party.{to, foreign, Same, MayName}
 use Rattle.merging.specs.Apart.{run}
 use Rattle.merging.proofs.Reader.{Early, reader-early, AtNinth, early-place}
 use Rattle.wired.specs.Wire.{Heard, nothing, this, told, Bench, Lawful, Word, says, ticks, Devices, stepWire}
-use Rattle.wired.specs.Wire.{runWire, lineBy}
+use Rattle.wired.specs.Wire.{runWire}
 use Rattle.wired.specs.Pulls.{OnePulls}
 
 data Clear : Phase → Phase → Type 0 where

@@ -1,10 +1,8 @@
 -- SPDX-License-Identifier: Apache-2.0
 -- Demand 3 of each device on a wire, from that of one with a third party (`apart` of isolation). To a device j the
--- transactions
--- of all other devices are foreign ones (`fair`); its state after the wire's run is its own run on what it heard
--- (`wire-run`);
--- in its own transactions every other device leaves the line to the master, so that the line of all is j's
--- (`own-line`).
+-- transactions of all other devices are foreign ones (`fair`); its state after the wire's run is its own run on what it
+-- heard (`wire-run`); in its own transactions every other device leaves the line to the master, so that the line of all
+-- is j's (`own-line`).
 -- Assumes nothing.
 use Prim.Native.Nat.{ℕ}
 use mathlib.Core.Path.{_≡_, refl, sym, ap, subst, _∙_}
@@ -12,17 +10,17 @@ use mathlib.Core.Bool.{Bool, true, false, _&&_}
 use mathlib.Core.List.{List, [], _∷_, map}
 use Rattle.wire.specs.Bits.{pushed, Place, first, within, last, ack, placeAt}
 use Rattle.wire.specs.Clock.{receivedAt, sentAt, Receiver, Sender}
-use Rattle.wire.specs.Machine.{Parts, Line, start, stop, clock, Event, line, tick, State, Answer, lined, clocked}
+use Rattle.wire.specs.Machine.{Parts, Line, start, stop, clock, line, State, Answer, lined, clocked}
 use Rattle.wire.specs.Machine.{step, answerOf, mastersLine}
 use Rattle.wire.specs.declared.Side.{Side}
 use Rattle.wire.specs.declared.Side.the-variants.{Memory, Companion}
 use Rattle.wire.specs.declared.Phase.{Phase}
 use Rattle.wire.specs.declared.Phase.the-variants.{Idle, Slave, AddressHigh, AddressLow, Pointer, Write, Read}
 use Rattle.merging.specs.Merge.{Reader, between, calling, moving, next, Calls, MayStand, Said, by, eventsOf}
-use Rattle.merging.specs.Merge.{keepIf, picked, listOf}
+use Rattle.merging.specs.Merge.{keepIf, picked}
 use Rattle.merging.specs.Merge as Merge
 use Rattle.merging.specs.Party.{Party, to, foreign, MayName, isMemory, isCompanion, BusEvent, PartyEvent, Fair}
-use Rattle.merging.specs.Apart.{run, answersOf, Steady, KeptApart}
+use Rattle.merging.specs.Apart.{run, answersOf, KeptApart}
 use Rattle.merging.specs.Demand.{OnlyWrites, WritesSteady}
 use Rattle.merging.proofs.Stands.{Byte, Stands, stands-next}
 use Rattle.merging.proofs.Own.{foreign-own}
@@ -30,9 +28,9 @@ use Rattle.merging.proofs.Apart.{apart}
 use Rattle.merging.proofs.Steady.{steady-of-writes}
 use Rattle.wired.specs.Wire.{Heard, nothing, this, told, Bench, Lawful, Seat, Word, says, ticks, roleOf}
 use Rattle.wired.specs.Wire.{Turns, done, turn, bus, tock}
-use Rattle.wired.specs.Wire.{Devices, hears, stepWire, runWire, lineBy, wireLine, wireLines, partyOf, asTold}
+use Rattle.wired.specs.Wire.{Devices, stepWire, runWire, lineBy, wireLines, partyOf, asTold}
 use Rattle.wired.specs.Wire.{asHeard}
-use Rattle.wired.specs.Wire.{toldFor, wordOf, pickedFor, memoryList, companionList, OnWire}
+use Rattle.wired.specs.Wire.{toldFor, pickedFor, companionList, OnWire}
 
 -- the same of slave bytes that say less
 module _ (Own Good : ℕ → Type 0) (f : (b : ℕ) → Own b → Good b) where

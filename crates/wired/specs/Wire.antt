@@ -10,14 +10,14 @@
 -- Assumes nothing.
 use Prim.Native.Nat.{ℕ}
 use mathlib.Core.Path.{_≡_}
-use mathlib.Core.Bool.{Bool, true, false, _&&_}
+use mathlib.Core.Bool.{Bool, true, false}
 use mathlib.Core.List.{List, [], _∷_}
-use Rattle.wire.specs.Machine.{Parts, Line, Event, line, tick, State, Answer, lined, step}
+use Rattle.wire.specs.Machine.{Parts, Line, Event, line, tick, State, lined}
 use Rattle.wire.specs.declared.Side.{Side}
-use Rattle.wire.specs.declared.Side.the-variants.{Memory, Companion}
-use Rattle.merging.specs.Merge.{Reader, between, next, MayStand, by, eventsOf, keepIf, picked, listOf}
+use Rattle.wire.specs.declared.Side.the-variants.{Companion}
+use Rattle.merging.specs.Merge.{Reader, between, next, MayStand, by, keepIf, listOf}
 use Rattle.merging.specs.Party.{Party, to, foreign, MayName, isMemory, isCompanion, BusEvent, PartyEvent}
-use Rattle.merging.specs.Apart.{run, answersOf, Steady}
+use Rattle.merging.specs.Apart.{run, answersOf}
 
 -- What a device hears of a tick or an edge on the wire: nothing, or a tick of its own.
 pub data Heard (T : Type 0) : Type 0 where
@@ -66,9 +66,8 @@ told (this t) = tick t ∷ []
 
 module _ (B : Bench) where
   -- A merge of the seats' lists of whole transactions, cut anywhere: it is seat a's turn, its reader stands at q,
-  -- all others are
-  -- between transactions. "Inside a transaction of one device, of the others' lists only ticks and counter edges
-  -- fall."
+  -- all others are between transactions. "Inside a transaction of one device, of the others' lists only ticks and
+  -- counter edges fall."
   pub data Turns : Seat (B .Dev) → Reader → List (Word (B .Dev) (B .Tock)) → Type 0 where
     done : {a : Seat (B .Dev)} {q : Reader} → Turns a q []
     turn : {a c : Seat (B .Dev)} {l : List (Word (B .Dev) (B .Tock))} → Turns c between l → Turns a between l
@@ -109,8 +108,7 @@ module _ (B : Bench) where
     partyOf a = roleOf (B .same (a .at) j) (a .side)
 
     -- The merged list as the device j has it: its own two seats' transactions, all others' as foreign ones, and of
-    -- the ticks and
-    -- edges those that it hears, in its companion's list.
+    -- the ticks and edges those that it hears, in its companion's list.
     abbrev pub asTold : Heard (B .part j .Tick) → List (PartyEvent (B .part j)) → List (PartyEvent (B .part j))
     asTold nothing l = l
     asTold (this t) l = by (to Companion) (tick t) ∷ l
@@ -141,9 +139,8 @@ module _ (B : Bench) where
     companionList l = listOf isCompanion (asHeard l)
 
     -- Demand 3 of the device j: its memory, and the wire's lines in its memory transactions, are as if its memory
-    -- list had run
-    -- on j alone; its companion, and the wire's lines in its companion transactions and at its ticks, as if its
-    -- other list had.
+    -- list had run on j alone; its companion, and the wire's lines in its companion transactions and at its ticks, as
+    -- if its other list had.
     pub record OnWire (s : Devices) (l : List (Word (B .Dev) (B .Tock))) : Type 0 where
       pub memory : runWire s l j .memory ≡ run (B .part j) (s j) (memoryList l) .memory
       pub memory-lines :

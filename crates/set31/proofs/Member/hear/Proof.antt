@@ -1,7 +1,7 @@
 -- SPDX-License-Identifier: Apache-2.0
 -- `set31::Member::hear` meets its contract.
 -- Assumes nothing.
-use mathlib.Core.Path.{refl, sym, _∙_}
+use mathlib.Core.Path.{sym, _∙_}
 use denote.Ref.{now}
 use borrow.Author.Needs.{needs}
 use Rattle.set31.specs.Set.{held}

@@ -1,7 +1,6 @@
 -- SPDX-License-Identifier: Apache-2.0
 -- `set31::Set::happen` meets its contract.
 -- Assumes nothing.
-use mathlib.Core.Path.{refl, sym, _∙_}
 use native.Mathlib.Omega.{arith}
 use denote.Ref.{now}
 use borrow.Author.Needs.{needs}
