@@ -11,7 +11,7 @@ SHELL := bash
 
 # The crates that export functions to C, each an object of its own in libfm3130.a: build/native for this machine,
 # build/official for x86-64.
-ARCHIVES := rig single line narrow mend sleep master handheld capture proving trim rig31
+ARCHIVES := rig single line narrow mend sleep master handheld capture proving trim rig31 rig31set
 
 # Where `make install` puts the library; DESTDIR goes before it.
 PREFIX ?= /usr/local
