@@ -3,7 +3,7 @@
 -- the theorem; the answers to a read from the current address are computed, and differ.
 -- Assumes nothing.
 use Prim.Native.Nat.{ℕ}
-use mathlib.Core.Path.{_≡_, refl, ap}
+use mathlib.Core.Path.{refl, ap}
 use mathlib.Core.Bool.{true, false}
 use mathlib.Core.List.{List, _++_}
 use native.Mathlib.Omega.{arith}
@@ -19,7 +19,6 @@ use Rattle.device.specs.Event.{happening, eventOn}
 use Rattle.rig.specs.Run.{runOf, allKnown}
 use Rattle.master.specs.Events.{written, writeEvents}
 use Rattle.handheld.specs.declared.Master.the-variants.{Rig}
-use Rattle.assurance.specs.Session.{afterActs, begin}
 use Rattle.assurance.specs.Same.{Alongside, ReadsIn}
 use Rattle.assurance.specs.Current.{setRead, currentRead, lentBytes, silent, aimed, NoAssurance}
 use Rattle.assurance.proofs.Same.{same-answers}

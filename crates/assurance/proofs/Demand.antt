@@ -6,12 +6,11 @@ use Prim.Native.Nat.{ℕ}
 use mathlib.Core.Path.{_≡_, refl, sym, ap, _∙_}
 use mathlib.Core.Bool.{Bool, true, false, cond}
 use mathlib.Core.List.{List, [], _∷_, _++_}
-use Rattle.rig.specs.Run.{Ended, following, runOf}
+use Rattle.rig.specs.Run.{following, runOf}
 use Rattle.rig.proofs.Pieces.{run-append}
-use Rattle.isolation.specs.Demand3.{Held}
 use Rattle.isolation.proofs.Demand3.{demand-three}
 use Rattle.assurance.specs.Session.{World, Act, asks, calls, begin, isAnswered, ranOn, afterAct, answeredOf, sessionOf}
-use Rattle.assurance.specs.Demand.{SessionAsList, Demanded, DemandThreeOfSessions}
+use Rattle.assurance.specs.Demand.{SessionAsList, DemandThreeOfSessions}
 
 -- one call, answered or not, and the session after it
 called : (b : Bool) (w : World) (es : List ℕ) (l : List Act)

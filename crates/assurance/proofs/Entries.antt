@@ -3,8 +3,8 @@
 -- through their tests is an act.
 -- Assumes nothing.
 use Prim.Native.Nat.{ℕ, _≤_}
-use mathlib.Core.Path.{_≡_, refl, sym, ap, _∙_}
-use mathlib.Core.Bool.{Bool, true, false, cond, _&&_}
+use mathlib.Core.Path.{_≡_, refl, ap, _∙_}
+use mathlib.Core.Bool.{Bool, true, false, cond}
 use mathlib.Core.List.{List, [], _∷_}
 use lib.ListN.{length}
 use Rattle.wire.proofs.Tests.{by-test}
@@ -12,7 +12,7 @@ use Rattle.device.specs.Chip.{memorySize}
 use Rattle.device.specs.Limits.{wellFormed}
 use Rattle.rig.specs.Image.{imageOf, decodeOf}
 use Rattle.rig.specs.declared.Decoded.the-variants.{Good}
-use Rattle.rig.specs.Run.{Outcome, allKnown, outcomeOf}
+use Rattle.rig.specs.Run.{Outcome, allKnown}
 use Rattle.rig.proofs.Images.{decode-image}
 use Rattle.rig.proofs.Runs.{outcome-written}
 use Rattle.handheld.specs.Bus.{mayAsk, mayCall, frees, masterNumber, holderNumber, standingOf}
@@ -23,7 +23,7 @@ use Rattle.handheld.specs.declared.Holder.{Holder}
 use Rattle.handheld.specs.declared.Holder.the-variants.{Nobody, Held}
 use Rattle.handheld.specs.declared.Standing.the-variants.{Known}
 use Rattle.handheld.proofs.Ways.{ask-refused, ask-answered, call-unknown-event, call-not-held, call-ran}
-use Rattle.assurance.specs.Session.{World, asks, calls, afterAct}
+use Rattle.assurance.specs.Session.{World, asks, afterAct}
 use Rattle.assurance.specs.Entries.{busByte, AskAs, CallAs, AsTheEntries}
 
 -- a holder's byte and a master's number name them again

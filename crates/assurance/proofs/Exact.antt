@@ -2,17 +2,17 @@
 -- A Clock of a transaction all of whose reads have their address set, on two near devices in one phase: the line and the
 -- next phase are the same, and the memory address where it was set.
 -- Assumes nothing.
-use Prim.Native.Nat.{ℕ, zero, suc, _+_, _≤_, _<_}
+use Prim.Native.Nat.{ℕ, _+_}
 use mathlib.Core.Path.{_≡_, refl, sym, ap, _∙_}
-use mathlib.Core.Bool.{Bool, true, false, cond, _&&_}
+use mathlib.Core.Bool.{Bool, true, _&&_}
 use native.Mathlib.Omega.{arith}
 use lib.Dec.{leb, eqb}
 use lib.ListN.{getD}
-use borrow.Author.Tests.{lt-leb, le-leb, eqb-true, eqb-false}
+use borrow.Author.Tests.{lt-leb, eqb-true, eqb-false}
 use Rattle.wire.specs.Bits.{pushed, sentBit}
-use Rattle.wire.specs.Clock.{Half, half, Taken, Receiver, received, kept, sent, more}
-use Rattle.wire.specs.Kinds.{lowByte, memoryByte, memoryRead, pointerByte, companionByte, companionRead}
-use Rattle.wire.specs.Memory.{Cells, lent, pointed, next, isProtected, refusedByte, putByte, byteAt, steppedOn}
+use Rattle.wire.specs.Clock.{Half, Receiver, received, sent}
+use Rattle.wire.specs.Kinds.{lowByte, memoryByte, memoryRead, pointerByte}
+use Rattle.wire.specs.Memory.{Cells, pointed, next, isProtected, refusedByte, putByte, byteAt, steppedOn}
 use Rattle.wire.specs.Machine.{Out, clocked}
 use Rattle.wire.specs.declared.Side.the-variants.{Memory, Companion}
 use Rattle.wire.specs.declared.Phase.{Phase}
@@ -20,9 +20,9 @@ use Rattle.wire.specs.declared.Phase.the-variants.{Idle, Slave, AddressHigh, Ad
 use Rattle.wire.proofs.Clock.{received-inside, received-last, received-ack, sent-first, sent-within, sent-last, sent-ack}
 use Rattle.wire.proofs.Cells.{put-steps}
 use Rattle.wire.proofs.Tests.{by-test}
-use Rattle.companion.specs.Part.{guardOf, aimOf, loadOf, loadedOf}
+use Rattle.companion.specs.Part.{guardOf, aimOf}
 use Rattle.companion.specs.declared.Companion.{Companion as Desk}
-use Rattle.device.specs.Desk.{aims, stores}
+use Rattle.device.specs.Desk.{aims}
 use Rattle.device.specs.Chip.{memorySize, fm3130}
 use Rattle.device.specs.declared.State.{State}
 use Rattle.assurance.specs.Same.{ninthLow, ReadInAt}

@@ -1,20 +1,19 @@
 -- SPDX-License-Identifier: Apache-2.0
 -- A Clock of the master on both devices: they stay near.
 -- Assumes nothing.
-use Prim.Native.Nat.{ℕ, zero, suc, _+_, _≤_, _<_}
-use mathlib.Core.Path.{_≡_, refl, sym, ap, _∙_}
-use mathlib.Core.Bool.{Bool, true, false, cond, _&&_}
-use mathlib.Core.List.{List, [], _∷_}
+use Prim.Native.Nat.{ℕ, _+_}
+use mathlib.Core.Path.{_≡_, refl, sym, _∙_}
+use mathlib.Core.Bool.{Bool, true, false}
 use native.Mathlib.Omega.{arith}
 use lib.Dec.{leb, eqb}
-use lib.ListN.{length, getD, set, length-set}
+use lib.ListN.{length, set, length-set}
 use borrow.Author.Tests.{lt-leb, le-leb, eqb-true, eqb-false}
-use Rattle.wire.specs.Bits.{pushed, sentBit}
+use Rattle.wire.specs.Bits.{pushed}
 use Rattle.wire.specs.Slave.{slaveNames, answers, opened}
-use Rattle.wire.specs.Clock.{Half, half, Taken, Receiver, received, kept, sent, more}
+use Rattle.wire.specs.Clock.{half, received, kept, sent, more}
 use Rattle.wire.specs.Kinds.{slaveByte, highByte, lowByte, memoryByte, memoryRead, pointerByte, companionByte, companionRead}
-use Rattle.wire.specs.Memory.{Cells, lent, pointed, next, isProtected, refusedByte, putByte, byteAt, steppedOn}
-use Rattle.wire.specs.Machine.{Out, out, neither, beside, beyond, clocked}
+use Rattle.wire.specs.Memory.{Cells, pointed, next, isProtected, refusedByte, putByte, byteAt, steppedOn}
+use Rattle.wire.specs.Machine.{neither, beside, beyond, clocked}
 use Rattle.wire.specs.declared.Side.the-variants.{Memory, Companion}
 use Rattle.wire.specs.declared.Named.{Named}
 use Rattle.wire.specs.declared.Named.the-variants.{Nobody, Reads, Writes}

@@ -2,33 +2,24 @@
 -- A read that sets its address gives the same bytes whatever the other master did before: both sessions are near the run
 -- of the master's own events, and near devices answer such a read alike.
 -- Assumes nothing.
-use Prim.Native.Nat.{ℕ, zero, suc, _+_, _*_, _/_, _%_, _≤_, _<_}
-use mathlib.Core.Path.{_≡_, refl, sym, ap, subst, _∙_}
-use mathlib.Core.Bool.{Bool, true, false, cond, false≢true}
-use mathlib.Core.List.{List, [], _∷_, _++_}
-use lib.Dec.{eqb}
-use lib.ListN.{getD}
-use borrow.Author.Tests.{eq-eqb}
-use Rattle.wire.specs.Memory.{next}
+use Prim.Native.Nat.{ℕ}
+use mathlib.Core.Path.{_≡_, refl, sym, subst, _∙_}
+use mathlib.Core.Bool.{Bool, true, false, false≢true}
+use mathlib.Core.List.{List, _∷_}
 use Rattle.wire.specs.declared.Phase.the-variants.{Idle}
-use Rattle.wire.proofs.Tests.{by-test}
-use Rattle.companion.specs.Part.{pinOf}
-use Rattle.companion.specs.declared.Companion.{Companion as Desk}
-use Rattle.device.specs.Chip.{memorySize}
 use Rattle.device.specs.Event.{onWire, happening, eventOn, eventOf}
 use Rattle.wire.specs.Machine.{start, lined}
 use Rattle.bus.specs.Limits.{powerWithin}
 use Rattle.bus.specs.declared.Power.{Power}
 use Rattle.bus.specs.declared.Power.the-variants.{On, Backup, Off}
 use Rattle.device.specs.declared.State.{State}
-use Rattle.rig.specs.Run.{Ended, runOf}
+use Rattle.rig.specs.Run.{runOf}
 use Rattle.handheld.specs.declared.Master.{Master}
-use Rattle.handheld.specs.declared.Holder.the-variants.{Nobody}
-use Rattle.assurance.specs.Session.{World, Act, afterActs, ownOf, begin}
-use Rattle.assurance.specs.Same.{answersAfter, Alongside, ReadsIn, SameAnswers}
+use Rattle.assurance.specs.Session.{afterActs, ownOf, begin}
+use Rattle.assurance.specs.Same.{ReadsIn, SameAnswers}
 use Rattle.assurance.proofs.Near.{equal, weaken}
-use Rattle.assurance.proofs.Steps.{Alike, Together, lessen, idle-of}
-use Rattle.assurance.proofs.Strict.{Strict, Answered, answered, answer-same, pin-same}
+use Rattle.assurance.proofs.Steps.{Alike, lessen, idle-of}
+use Rattle.assurance.proofs.Strict.{Strict, Answered, answered, answer-same}
 use Rattle.assurance.proofs.Sessions.{Stands, free, session}
 
 -- from a state between transfers

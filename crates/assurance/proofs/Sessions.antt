@@ -4,12 +4,11 @@
 -- between transfers.
 -- Assumes nothing.
 use Prim.Native.Nat.{ℕ}
-use mathlib.Core.Path.{_≡_, refl, sym, ap, _∙_}
-use mathlib.Core.Bool.{Bool, true, false, cond, not, _||_, _&&_, true≢false, false≢true}
-use mathlib.Core.List.{List, [], _∷_, _++_}
+use mathlib.Core.Path.{_≡_, refl, ap}
+use mathlib.Core.Bool.{Bool, true, false, cond, not, _||_, true≢false, false≢true}
+use mathlib.Core.List.{List, [], _∷_}
 use borrow.Author.Tests.{not-true}
-use Rattle.wire.specs.Machine.{Line, start, stop, clock, clocked, lined}
-use Rattle.wire.specs.declared.Phase.{Phase}
+use Rattle.wire.specs.Machine.{start, stop, clock, lined}
 use Rattle.wire.specs.declared.Phase.the-variants.{Idle}
 use Rattle.wire.proofs.Tests.{by-test, and-split}
 use Rattle.bus.specs.Limits.{powerWithin}
@@ -17,7 +16,7 @@ use Rattle.bus.specs.declared.Power.{Power}
 use Rattle.bus.specs.declared.Power.the-variants.{On, Backup, Off}
 use Rattle.device.specs.Event.{Happening, onWire, second, lost, gone, returned, happening, eventOn, eventOf}
 use Rattle.device.specs.declared.State.{State}
-use Rattle.rig.specs.Run.{Ended, runOf, allKnown}
+use Rattle.rig.specs.Run.{runOf, allKnown}
 use Rattle.rig.proofs.Pieces.{run-append}
 use Rattle.handheld.specs.Bus.{sameMaster, holds, afterAsk, isBus, anyBus, mayCall, freedBy, frees}
 use Rattle.handheld.specs.declared.Master.{Master}
@@ -26,7 +25,7 @@ use Rattle.handheld.specs.declared.Master.the-variants.{Rig, Handheld}
 use Rattle.handheld.specs.declared.Holder.the-variants.{Nobody, Held}
 use Rattle.assurance.specs.Session.{World, Act, asks, calls, isAnswered, ranOn, afterAct, afterActs, neithers, ownIn, ownOf}
 use Rattle.assurance.specs.Same.{marked, ReadsSet, markedAfter, HarmlessIn, AskedOf, markAfterAct, Allowed, Fair}
-use Rattle.assurance.proofs.Near.{Phases, equal, phases-idle}
+use Rattle.assurance.proofs.Near.{equal, phases-idle}
 use Rattle.assurance.proofs.Steps.{Alike, Together, Apart, lessened, mine, worlds, worlds-apart, theirs, Resting, rests}
 
 or-false : (a b : Bool) → (a || b) ≡ false → (a ≡ false) × (b ≡ false)

@@ -2,13 +2,11 @@
 -- One event on two devices that are near: of the master, on both; of the other, on the first; a tick or a power event, on
 -- both.
 -- Assumes nothing.
-use Prim.Native.Nat.{ℕ, zero, suc, _+_, _≤_, _<_}
+use Prim.Native.Nat.{ℕ}
 use mathlib.Core.Path.{_≡_, refl, sym, ap, subst, _∙_}
-use mathlib.Core.Bool.{Bool, true, false, cond, true≢false, false≢true}
-use mathlib.Core.List.{List, [], _∷_}
-use native.Mathlib.Omega.{arith}
+use mathlib.Core.Bool.{Bool, true, false, true≢false, false≢true}
+use mathlib.Core.List.{List}
 use lib.Dec.{leb}
-use lib.ListN.{length, getD}
 use borrow.Author.Tests.{leb-true}
 use Rattle.weights.specs.Weight.{has}
 use Rattle.wire.specs.Memory.{Cells, lent}
@@ -29,7 +27,7 @@ use Rattle.device.specs.Event.{Happening, onWire, second, lost, gone, returned,
 use Rattle.device.specs.declared.State.{State}
 use Rattle.handheld.specs.Bus.{isBus, freedBy}
 use Rattle.assurance.specs.Same.{ninthOf, marked, ReadSet, Harmless}
-use Rattle.assurance.proofs.Near.{Near, Phases, equal, sending, Placed, Met, weaken}
+use Rattle.assurance.proofs.Near.{Near, Phases, equal, Placed, weaken}
 use Rattle.assurance.proofs.Mine.{clock-met}
 use Rattle.assurance.proofs.Theirs.{clock-far}
 

@@ -2,11 +2,10 @@
 -- A list of events from a Start on, all of whose reads have their address set, on two near devices: the answers are the
 -- same. Events one by one, with what was set of the two addresses.
 -- Assumes nothing.
-use Prim.Native.Nat.{ℕ, _+_, _*_, _≤_}
+use Prim.Native.Nat.{ℕ, _≤_}
 use mathlib.Core.Path.{_≡_, refl, sym, ap, subst, _∙_}
 use mathlib.Core.Bool.{Bool, true, false, cond, false≢true}
-use mathlib.Core.List.{List, [], _∷_, _++_}
-use native.Mathlib.Omega.{arith}
+use mathlib.Core.List.{List, [], _∷_}
 use lib.Dec.{leb}
 use borrow.Author.Tests.{leb-true}
 use Rattle.wire.proofs.Tests.{by-test}
@@ -21,11 +20,11 @@ use Rattle.companion.specs.declared.Companion.{Companion as Desk}
 use Rattle.device.specs.Event.{Happening, onWire, second, lost, gone, returned, happening, eventOn, eventOf}
 use Rattle.device.specs.Answer.{pinShown, answerByte}
 use Rattle.device.specs.declared.State.{State}
-use Rattle.rig.specs.Run.{Ended, following, answerTo, runOf}
+use Rattle.rig.specs.Run.{runOf}
 use Rattle.assurance.specs.Same.{marked, ReadAt, ReadSet, ninthLow, placedBy, ReadInAt, ReadIn, ReadsIn}
-use Rattle.assurance.proofs.Near.{Near, Phases, equal, Placed, weaken}
-use Rattle.assurance.proofs.Steps.{cellsOf, Alike, Together, PlacedAt, mine}
-use Rattle.assurance.proofs.Exact.{Exact, clock-exact}
+use Rattle.assurance.proofs.Near.{Placed}
+use Rattle.assurance.proofs.Steps.{cellsOf, Alike, Together, mine}
+use Rattle.assurance.proofs.Exact.{clock-exact}
 
 -- near, in one phase; the memory address where it was set
 pub record Strict (A : ℕ → Bool) (t v : Bool) (h : State) (m : List ℕ) (r : State) (n : List ℕ) : Type 0 where

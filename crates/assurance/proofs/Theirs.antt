@@ -2,19 +2,18 @@
 -- A Clock of the other master, which writes none of the bytes in question and no register and reads no 00h, on one of two
 -- devices: they stay near.
 -- Assumes nothing.
-use Prim.Native.Nat.{ℕ, zero, suc, _+_, _≤_, _<_}
+use Prim.Native.Nat.{ℕ}
 use mathlib.Core.Path.{_≡_, refl, sym, ap, _∙_}
-use mathlib.Core.Bool.{Bool, true, false, cond, true≢false}
-use mathlib.Core.List.{List, [], _∷_}
-use native.Mathlib.Omega.{arith}
+use mathlib.Core.Bool.{Bool, true, false, true≢false}
+use mathlib.Core.List.{List}
 use lib.Dec.{leb, eqb}
-use lib.ListN.{length, getD, set, length-set}
+use lib.ListN.{length, getD, length-set}
 use lib.Seq.{getD-set-other}
 use borrow.Author.Tests.{eqb-true, eqb-false, ne-eqb}
 use Rattle.wire.specs.Bits.{pushed}
 use Rattle.wire.specs.Clock.{received, sent}
-use Rattle.wire.specs.Kinds.{lowByte, memoryByte, memoryRead, pointerByte, companionByte, companionRead}
-use Rattle.wire.specs.Memory.{Cells, lent, pointed, isProtected, refusedByte, putByte, byteAt, steppedOn}
+use Rattle.wire.specs.Kinds.{memoryByte, pointerByte, companionByte, companionRead}
+use Rattle.wire.specs.Memory.{Cells, lent, isProtected, refusedByte, putByte}
 use Rattle.wire.specs.Machine.{clocked}
 use Rattle.wire.specs.declared.Side.the-variants.{Memory, Companion}
 use Rattle.wire.specs.declared.Phase.{Phase}

@@ -18,7 +18,6 @@ use Rattle.wire.specs.Machine.{start, stop, clock}
 use Rattle.wire.specs.declared.Side.the-variants.{Memory, Companion}
 use Rattle.wire.specs.declared.Phase.{Phase}
 use Rattle.wire.specs.declared.Phase.the-variants.{Idle, Slave, AddressHigh, AddressLow, Pointer, Write, Read}
-use Rattle.bus.specs.declared.Power.the-variants.{On}
 use Rattle.device.specs.Chip.{memorySize}
 use Rattle.device.specs.Event.{Happening, onWire, second, lost, gone, returned, happening, eventOf}
 use Rattle.device.specs.declared.State.{State}

@@ -3,7 +3,7 @@
 -- Assumes nothing.
 use Prim.Native.Nat.{ℕ, _<_}
 use mathlib.Core.Path.{_≡_, refl, sym, _∙_}
-use mathlib.Core.Bool.{true, false}
+use mathlib.Core.Bool.{true}
 use mathlib.Core.List.{List}
 use native.Mathlib.Omega.{arith}
 use lib.Dec.{leb, eqb}
@@ -17,7 +17,7 @@ use Rattle.contents.specs.Sections.{firstFaulty, entryOf, sectionOf}
 use Rattle.contents.proofs.Sound.{sound-of}
 use Rattle.contents.proofs.Finding.{even, inside}
 use Rattle.capture.specs.Verdict.{limit, rightAnswers, compared, verdictOf}
-use Rattle.capture.specs.Laws.{First, NamesTheFirst, SaysAllAgree, FirstFault, NamesTheFault}
+use Rattle.capture.specs.Laws.{NamesTheFirst, SaysAllAgree, FirstFault, NamesTheFault}
 use Rattle.capture.specs.declared.Verdict.the-variants.{Agree, Differs, Faulty, TooLong}
 use Rattle.capture.proofs.Replays.{part-length}
 use Rattle.capture.proofs.Firsts.{first-wrong, all-agree, compared-faulty}

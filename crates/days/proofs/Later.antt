@@ -12,13 +12,13 @@ use borrow.Author.Tests.{leb-true, leb-false, le-ltb, lt-ltb}
 use Rattle.calendar.specs.Field.{value, bcd, bit}
 use Rattle.calendar.specs.Month.{monthLength}
 use Rattle.calendar.specs.Next.{isValid, lengthOf, nextOf}
-use Rattle.calendar.specs.Instant.{monthStart, monthIndex, dayNumber, timeOf, instant}
+use Rattle.calendar.specs.Instant.{monthStart, monthIndex, timeOf, instant}
 use Rattle.calendar.specs.After.{after, crossings}
 use Rattle.calendar.specs.declared.Calendar.{Calendar}
 use Rattle.calendar.proofs.Field.{InField, value-bcd, bcd-digit}
 use Rattle.calendar.proofs.Month.{month-length-limits}
-use Rattle.calendar.proofs.Valid.{Valid, valid-facts, valid-test}
-use Rattle.calendar.proofs.Instant.{month-start-next, month-start-century}
+use Rattle.calendar.proofs.Valid.{Valid, valid-facts}
+use Rattle.calendar.proofs.Instant.{month-start-next}
 use Rattle.calendar.proofs.Next.{next-of-invalid}
 use Rattle.calendar.proofs.After.{after-valid, after-instant}
 use Rattle.century.proofs.Instants.{instant-below, settled, same-time, same-calendar}

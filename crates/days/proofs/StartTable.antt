@@ -1,15 +1,13 @@
 -- SPDX-License-Identifier: Apache-2.0
 -- Every entry of a table of month starts is the start of its month.
 -- Assumes nothing.
-use mathlib.Core.Path.{_≡_, refl, sym, _∙_, ap}
-use mathlib.Core.Bool.{Bool, true, _&&_}
+use mathlib.Core.Path.{_≡_, sym, _∙_, ap}
 use mathlib.Core.List.{List, [], _∷_}
-use Prim.Native.Nat.{ℕ, zero, suc, _+_, _*_, _/_, _%_, _≤_, _<_}
+use Prim.Native.Nat.{ℕ, zero, suc, _+_, _*_, _/_, _%_, _<_}
 use native.Mathlib.Nat.{add-zero, zero-add, add-suc, suc-add, le-of-suc-le-suc, not-suc-le-zero}
 use native.Mathlib.Omega.{arith}
 use lib.Dec.{T, eqb, eqb→eq}
 use lib.ListN.{length, getD}
-use Rattle.calendar.specs.Month.{monthLength}
 use Rattle.calendar.specs.Instant.{monthStart}
 use Rattle.days.specs.Table.{climbs, IsTable}
 use Rattle.calendar.proofs.Tests.{and-left, and-right}

@@ -1,22 +1,21 @@
 -- SPDX-License-Identifier: Apache-2.0
 -- What the record keeps of the byte under way is what looking back over the history tells.
 -- Assumes nothing.
-use Prim.Native.Nat.{ℕ, zero, suc, _+_, _*_, _%_, _≤_, _<_}
+use Prim.Native.Nat.{ℕ, zero, suc, _+_, _*_, _%_}
 use mathlib.Core.Path.{_≡_, refl, sym, ap, _∙_, subst}
-use mathlib.Core.Bool.{Bool, true, false, cond, not, _&&_, false≢true}
-use mathlib.Core.List.{List, [], _∷_}
+use mathlib.Core.Bool.{Bool, true, false, cond, not, false≢true}
+use mathlib.Core.List.{_∷_}
 use native.Mathlib.Omega.{arith}
 use native.Mathlib.Numerals.{add-one}
 use lib.Dec.{eqb, ltb}
 use lib.ListN.{take, drop}
-use borrow.Author.Tests.{eqb-true, eqb-false, ne-eqb}
+use borrow.Author.Tests.{eqb-true, ne-eqb}
 use Rattle.wire.specs.Bits.{Place, first, within, last, ack, placeAt, pushed}
 use Rattle.wire.specs.Slave.{opened, slaveNames}
 use Rattle.wire.specs.Clock.{Receiver, Sender, kept, receivedAt, received, more, sentAt, sent}
 use Rattle.wire.specs.Kinds.{slaveByte, highByte, lowByte, memoryByte, memoryRead, pointerByte, companionByte, companionRead}
-use Rattle.wire.specs.Memory.{Cells, lent, putByte}
+use Rattle.wire.specs.Memory.{Cells, lent}
 use Rattle.wire.specs.Machine.{start, stop, clock, clocked, lined}
-use Rattle.wire.specs.declared.Side.{Side}
 use Rattle.wire.specs.declared.Side.the-variants.{Memory, Companion}
 use Rattle.wire.specs.declared.Named.{Named}
 use Rattle.wire.specs.declared.Named.the-variants.{Nobody, Reads, Writes}
@@ -28,17 +27,15 @@ use Rattle.bus.specs.declared.Power.{Power}
 use Rattle.bus.specs.declared.Power.the-variants.{On, Backup, Off}
 use Rattle.companion.specs.declared.Companion as Part
 use Rattle.device.specs.Chip.{fm3130}
-use Rattle.device.specs.Event.{Happening, onWire, second, lost, gone, returned, happening, eventOn, eventOf}
+use Rattle.device.specs.Event.{Happening, onWire, second, lost, gone, returned, happening, eventOn}
 use Rattle.device.specs.Answer.{answerByte, pinShown}
 use Rattle.device.specs.declared.State.{State}
 use Rattle.transfers.specs.Clocks.{isHigh}
-use Rattle.lamps.specs.History.{Moment, History, moment, happened, left}
-use Rattle.lamps.specs.Log.{clocksOf, dueFrom, dueOf, refusedBy, refusedIn, clocksDone, dueAt, pulls, isClock, clocksIn, byteShown, gaveWhat, addressAt, gaveAt, ninth, markFrom, markOf}
+use Rattle.lamps.specs.History.{Moment, History, happened, left}
+use Rattle.lamps.specs.Log.{clocksOf, dueOf, refusedBy, refusedIn, pulls, isClock, clocksIn, byteShown, gaveWhat, addressAt, gaveAt, ninth, markFrom, markOf}
 use Rattle.lamps.specs.Step.{following, atRest, refusing, gatheredAt, gathered, followed, pullsOf, clocksBy, dueBy, markBy}
-use Rattle.lamps.specs.declared.Mark.{Mark}
-use Rattle.lamps.specs.declared.Mark.the-variants.{Other}
 use Rattle.lamps.specs.declared.Due.{Due}
-use Rattle.lamps.specs.declared.Due.the-variants.{Value, Silence, Acknowledge}
+use Rattle.lamps.specs.declared.Due.the-variants.{Acknowledge}
 use Rattle.lamps.specs.declared.Follower.{Follower}
 
 no : {X : Type 0} → false ≡ true → X

@@ -6,7 +6,7 @@
 --   stepOf, reportOf      the record
 -- Assumes nothing.
 use Prim.Native.Nat.{ℕ, _+_, _-_}
-use mathlib.Core.Bool.{Bool, true, false, cond, not, _&&_}
+use mathlib.Core.Bool.{Bool, false, cond, not, _&&_}
 use lib.Dec.{eqb, ltb}
 use Rattle.wire.specs.Bits.{pushed}
 use Rattle.wire.specs.Machine.{start, stop, clock}
@@ -25,7 +25,7 @@ use Rattle.lamps.specs.Lit.{lampAddress}
 use Rattle.lamps.specs.declared.Mark.{Mark}
 use Rattle.lamps.specs.declared.Mark.the-variants.{Failed, Ended, Ticked, Gave, Other}
 use Rattle.lamps.specs.declared.Due.{Due}
-use Rattle.lamps.specs.declared.Due.the-variants.{Value, Silence, Acknowledge}
+use Rattle.lamps.specs.declared.Due.the-variants.{Acknowledge}
 use Rattle.lamps.specs.declared.Follower.{Follower}
 use Rattle.lamps.specs.declared.Lamp.{Lamp}
 use Rattle.lamps.specs.declared.Lamps.{Lamps}

@@ -2,16 +2,16 @@
 -- The next two lines by the phase: of a byte that comes in, by the clocks done, whether it will be acknowledged, and the
 -- line after its acknowledge; of a byte that goes out, by its bits. No event is run.
 -- Assumes nothing.
-use Prim.Native.Nat.{ℕ, zero, suc, _+_, _*_, _/_, _%_, _≤_, _<_}
+use Prim.Native.Nat.{ℕ, _+_, _*_, _/_, _%_, _≤_, _<_}
 use mathlib.Core.Path.{_≡_, refl, sym, ap, _∙_}
 use mathlib.Core.Bool.{Bool, true, false, not, cond, _&&_, false≢true}
-use mathlib.Core.List.{List, [], _∷_}
+use mathlib.Core.List.{List}
 use native.Mathlib.Omega.{arith}
 use lib.Dec.{eqb, leb, ltb}
-use lib.ListN.{length, getD}
-use borrow.Author.Tests.{eq-eqb, ne-eqb, eqb-true, eqb-false, lt-ltb, le-ltb, ltb-true, ltb-false, leb-true}
+use lib.ListN.{getD}
+use borrow.Author.Tests.{eq-eqb, ne-eqb, eqb-true, eqb-false, ltb-true, ltb-false}
 use Rattle.weights.specs.Weight.{has}
-use Rattle.wire.specs.Bits.{pushed, sentBit, placeAt}
+use Rattle.wire.specs.Bits.{pushed, placeAt}
 use Rattle.wire.specs.Slave.{slaveNames, answers, opened}
 use Rattle.wire.specs.Clock.{Receiver, received, receivedAt, kept, Sender, sent, sentAt, more}
 use Rattle.wire.specs.Limits.{phaseWithin}
@@ -29,7 +29,6 @@ use Rattle.wire.proofs.Clock.{received-inside, received-last, received-ack, sen
 use Rattle.bus.specs.Limits.{isIdle, powerWithin}
 use Rattle.bus.specs.declared.Power.{Power}
 use Rattle.bus.specs.declared.Power.the-variants.{On, Backup, Off}
-use Rattle.companion.specs.Registers.{registerBytes, registersOf}
 use Rattle.companion.specs.Map.{W}
 use Rattle.companion.specs.Part.{aimOf, loadsBadDate, storeOf, loadOf, loadedOf, guardOf, isWithin}
 use Rattle.companion.specs.declared.Companion as C
@@ -38,7 +37,6 @@ use Rattle.device.specs.Chip.{memorySize, fm3130, Done}
 use Rattle.device.specs.Event.{happening, eventOn, eventOf}
 use Rattle.device.specs.Limits.{isLegal, wellFormed}
 use Rattle.device.specs.declared.State.{State}
-use Rattle.device.proofs.Entry.{ready}
 use Rattle.frame.specs.Layout.{phaseOf}
 use Rattle.rig.specs.Accepting.{isImage}
 use Rattle.rig.specs.Image.{companionAt, candidate}

@@ -9,7 +9,7 @@ use lib.Dec.{eqb, ltb}
 use native.Mathlib.Omega.{arith}
 use borrow.Author.Tests.{not-true}
 use Rattle.wire.specs.Bits.{Place, first, within, last, ack, placeAt}
-use Rattle.wire.specs.Clock.{Half, Receiver, received, receivedAt, Sender, sent, sentAt}
+use Rattle.wire.specs.Clock.{Receiver, received, receivedAt, Sender, sent, sentAt}
 use Rattle.wire.specs.Kinds.{slaveByte, highByte, lowByte, memoryByte, memoryRead, pointerByte, companionByte, companionRead}
 use Rattle.wire.specs.Machine.{Parts, Out, neither, beside, beyond, clocked, lined}
 use Rattle.wire.specs.Memory.{lent}
@@ -22,7 +22,7 @@ use Rattle.companion.specs.declared.Companion as C
 use Rattle.device.specs.Chip.{fm3130, Done, doneOf}
 use Rattle.device.specs.Event.{happening, eventOn, eventOf}
 use Rattle.device.specs.declared.State.{State}
-use Rattle.line.specs.Line.{pulls, pullsAfter}
+use Rattle.line.specs.Line.{pulls}
 use Rattle.line.specs.Wires.{HiddenLevel, HiddenNext, isEighth, ClockDropped, SafeOnWires}
 use Rattle.line.proofs.Lines.{pulled-line}
 

@@ -7,7 +7,7 @@ use mathlib.Core.Bool.{Bool, true, false, cond}
 use mathlib.Core.List.{List, [], _∷_}
 use native.Mathlib.Omega.{arith}
 use native.Mathlib.Nat.{pow-succ', div-div-eq-div-mul, zero-div}
-use Rattle.lamps.specs.Step.{bit, lampsByte}
+use Rattle.lamps.specs.Step.{bit}
 use Rattle.lamps.specs.Lit.{isLit}
 use Rattle.lamps.specs.Statement.{deserved, logged}
 use Rattle.lamps.specs.declared.Mark.{Mark}

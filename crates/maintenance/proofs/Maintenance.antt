@@ -1,15 +1,15 @@
 -- SPDX-License-Identifier: Apache-2.0
 -- What maintenance may rely on.
 -- Assumes nothing.
-use Prim.Native.Nat.{ℕ, zero, suc, _+_, _≤_, _<_}
-use mathlib.Core.Path.{_≡_, refl, sym, ap, _∙_, subst}
-use mathlib.Core.Bool.{Bool, true, false, cond, not, _&&_, and-false, false≢true}
-use mathlib.Core.List.{List, [], _∷_, _++_, append-assoc, append-nil}
+use Prim.Native.Nat.{ℕ, zero, suc, _+_, _≤_}
+use mathlib.Core.Path.{_≡_, refl, sym, ap, _∙_}
+use mathlib.Core.Bool.{Bool, true, false, cond, not, and-false, false≢true}
+use mathlib.Core.List.{List, [], _∷_, _++_, append-assoc}
 use native.Mathlib.Omega.{arith}
 use lib.Dec.{eqb, ltb}
 use lib.ListN.{replicate}
-use borrow.Author.Tests.{eqb-true, eqb-false, lt-ltb, le-ltb, eq-eqb, not-true}
-use Rattle.wire.specs.Machine.{start, stop, clock, clocked, lined}
+use borrow.Author.Tests.{eqb-true, eqb-false, lt-ltb, le-ltb, not-true}
+use Rattle.wire.specs.Machine.{start, stop, clock}
 use Rattle.wire.specs.declared.Phase.{Phase}
 use Rattle.wire.specs.declared.Phase.the-variants.{Idle}
 use Rattle.wire.proofs.Tests.{by-test, and-split, and-join}
@@ -20,10 +20,10 @@ use Rattle.device.specs.Event.{Happening, onWire, second, lost, gone, returned,
 use Rattle.device.specs.declared.State.{State}
 use Rattle.rig.specs.Run.{runOf}
 use Rattle.rig.proofs.Pieces.{run-append}
-use Rattle.lamps.specs.History.{Moment, History, moment, happened, left, pastOf}
-use Rattle.lamps.specs.Log.{clocksOf, refusedAt, refusedBy, refusedIn, clocksDone, dueAt, pulls, gaveAt, gaveWhat, isPart, ninth, markFrom, markOf, logOf}
+use Rattle.lamps.specs.History.{Moment, History, moment, pastOf}
+use Rattle.lamps.specs.Log.{clocksOf, refusedAt, refusedBy, refusedIn, pulls, gaveAt, gaveWhat, isPart, ninth, markFrom, markOf, logOf}
 use Rattle.lamps.specs.Lit.{lampAddress, isStop, isTick, none, count, Last, nothing, gave, readIn, decided, litFrom}
-use Rattle.lamps.specs.Step.{lampsByte, pullsOf}
+use Rattle.lamps.specs.Step.{pullsOf}
 use Rattle.lamps.specs.Statement.{deserved, logged}
 use Rattle.maintenance.specs.Maintenance.{reported, Unpowered, Hung, Unacknowledged, isTickEvent, isStopEvent, ticksIn, noStop, Silent, isNothing, unread, Unread, ReadAsOne}
 use Rattle.lamps.specs.declared.Mark.{Mark}

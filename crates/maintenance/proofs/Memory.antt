@@ -9,18 +9,17 @@ use mathlib.Core.Bool.{Bool, true, false, cond, not, _&&_, and-false}
 use mathlib.Core.List.{List, [], _∷_, _++_}
 use native.Mathlib.Omega.{arith}
 use lib.Dec.{eqb, ltb}
-use lib.ListN.{getD, set, take, drop}
+use lib.ListN.{getD, take, drop}
 use lib.Seq.{getD-set-other}
-use borrow.Author.Tests.{eqb-true, eqb-false, ltb-true, ltb-false, ne-eqb, eq-eqb, not-true}
-use Rattle.wire.specs.Bits.{first, within, last, ack, Place, placeAt, pushed, sentBit}
-use Rattle.wire.specs.HighFirst.{pushedAll, sentBits}
+use borrow.Author.Tests.{eqb-true, ltb-false, ne-eqb, eq-eqb}
+use Rattle.wire.specs.Bits.{placeAt, pushed, sentBit}
 use Rattle.wire.specs.Clock.{sentAt}
 use Rattle.wire.specs.Kinds.{memoryRead}
 use Rattle.wire.specs.Memory.{Cells, lent, byteAt}
 use Rattle.wire.specs.Machine.{start, stop, clock, clocked, lined}
 use Rattle.wire.specs.declared.Side.the-variants.{Memory, Companion}
 use Rattle.wire.specs.declared.Phase.{Phase}
-use Rattle.wire.specs.declared.Phase.the-variants.{Idle, Slave, AddressHigh, AddressLow, Pointer, Write, Read}
+use Rattle.wire.specs.declared.Phase.the-variants.{Read}
 use Rattle.wire.proofs.Cells.{fetch-bytes}
 use Rattle.wire.proofs.HighFirst.{pushed-sent}
 use Rattle.wire.proofs.Tests.{by-test, and-split}
@@ -40,12 +39,12 @@ use Rattle.lamps.specs.Lit.{lampAddress}
 use Rattle.lamps.specs.Step.{begun, stepOf}
 use Rattle.lamps.specs.Statement.{answeredBy}
 use Rattle.lamps.specs.declared.Mark.{Mark}
-use Rattle.lamps.specs.declared.Mark.the-variants.{Failed, Ended, Ticked, Gave, Other}
+use Rattle.lamps.specs.declared.Mark.the-variants.{Ended, Gave}
 use Rattle.lamps.specs.declared.Proving.{Proving}
 use Rattle.lamps.proofs.Words.{lit-words}
 use Rattle.lamps.proofs.Proven.{Stands, stands-begun, stands-next}
-use Rattle.maintenance.specs.Memory.{isHighClock, isLeftHigh, allHigh, isEighthOfData, writesTo, noWrites, WasRead, LitWasRead, HoldsOne}
-use Rattle.maintenance.proofs.Under.{no, At, at-map, idle-at, clock-at, along}
+use Rattle.maintenance.specs.Memory.{isHighClock, isLeftHigh, allHigh, writesTo, noWrites, LitWasRead, HoldsOne}
+use Rattle.maintenance.proofs.Under.{no, At, idle-at, clock-at, along}
 use Rattle.maintenance.proofs.Ninth.{ninth-of}
 
 -- a cut of the log is a cut of the history

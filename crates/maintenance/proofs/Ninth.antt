@@ -2,45 +2,23 @@
 -- Where a line of the log says that a byte was wholly read, a byte of the memory goes out with eight clocks done; and the
 -- line has what looking back over the history tells.
 -- Assumes nothing.
-use Prim.Native.Nat.{ℕ, zero, suc, _+_, _≤_, _<_}
+use Prim.Native.Nat.{ℕ}
 use mathlib.Core.Path.{_≡_, refl, sym, ap, _∙_, subst}
-use mathlib.Core.Bool.{Bool, true, false, cond, not, _&&_, false≢true}
-use mathlib.Core.List.{List, [], _∷_}
-use native.Mathlib.Omega.{arith}
-use native.Mathlib.Numerals.{add-one}
-use lib.Dec.{eqb, ltb}
-use borrow.Author.Tests.{eqb-true, eqb-false, ltb-true, ltb-false, ne-eqb}
-use Rattle.wire.specs.Bits.{Place, first, within, last, ack, placeAt, pushed}
-use Rattle.wire.specs.Slave.{opened, slaveNames}
-use Rattle.wire.specs.Clock.{Receiver, Sender, kept, receivedAt, more, sentAt}
-use Rattle.wire.specs.Kinds.{slaveByte, highByte, lowByte, memoryByte, memoryRead, pointerByte, companionByte, companionRead}
-use Rattle.wire.specs.Memory.{Cells, lent}
-use Rattle.wire.specs.Machine.{start, stop, clock, clocked, lined}
+use mathlib.Core.Bool.{Bool, true, false, cond}
+use lib.Dec.{eqb}
+use borrow.Author.Tests.{eqb-true}
+use Rattle.wire.specs.Machine.{start, stop, clock}
 use Rattle.wire.specs.declared.Side.the-variants.{Memory, Companion}
-use Rattle.wire.specs.declared.Named.{Named}
-use Rattle.wire.specs.declared.Named.the-variants.{Nobody, Reads, Writes}
 use Rattle.wire.specs.declared.Phase.{Phase}
 use Rattle.wire.specs.declared.Phase.the-variants.{Idle, Slave, AddressHigh, AddressLow, Pointer, Write, Read}
 use Rattle.wire.proofs.Tests.{by-test}
-use Rattle.bus.specs.Limits.{isIdle, powerWithin}
-use Rattle.bus.specs.declared.Power.{Power}
-use Rattle.bus.specs.declared.Power.the-variants.{On, Backup, Off}
-use Rattle.companion.specs.declared.Companion as Part
-use Rattle.device.specs.Chip.{fm3130}
-use Rattle.device.specs.Event.{Happening, onWire, second, lost, gone, returned, happening, eventOn, eventOf}
-use Rattle.device.specs.declared.State.{State}
-use Rattle.rig.specs.Run.{runOf}
-use Rattle.lamps.specs.History.{Moment, History, moment, happened, left, pastOf}
-use Rattle.lamps.specs.Log.{clocksOf, dueOf, refusedIn, clocksDone, dueAt, pulls, isClock, gaveAt, gaveWhat, isPart, ninth, markFrom, markOf}
-use Rattle.lamps.specs.Lit.{isFailure, none}
-use Rattle.lamps.specs.Step.{begun, stepOf}
-use Rattle.lamps.specs.Statement.{answeredBy}
+use Rattle.device.specs.Event.{Happening, onWire, second, lost, gone, returned}
+use Rattle.lamps.specs.History.{Moment, History, happened}
+use Rattle.lamps.specs.Log.{clocksOf, dueOf, refusedIn, clocksDone, dueAt, pulls, gaveAt, gaveWhat, isPart, ninth, markFrom, markOf}
 use Rattle.lamps.specs.declared.Mark.{Mark}
 use Rattle.lamps.specs.declared.Mark.the-variants.{Failed, Ended, Ticked, Gave, Other}
 use Rattle.lamps.specs.declared.Due.{Due}
 use Rattle.lamps.specs.declared.Due.the-variants.{Value, Silence, Acknowledge}
-use Rattle.lamps.specs.declared.Proving.{Proving}
-use Rattle.lamps.proofs.Proven.{Stands, stands-begun, stands-next}
 use Rattle.maintenance.proofs.Under.{no, At}
 
 -- a line that says a byte was wholly read stands at its ninth clock

@@ -8,7 +8,6 @@ use Prim.Native.Nat.{ℕ}
 use mathlib.Core.Path.{_≡_}
 use mathlib.Core.Bool.{true}
 use mathlib.Core.List.{List, [], _∷_, _++_}
-use lib.ListN.{getD}
 use Rattle.device.specs.Power.{fresh}
 use Rattle.master.specs.Events.{written, asked, opening, readEvents}
 use Rattle.maintenance.specs.Maintenance.{reported}

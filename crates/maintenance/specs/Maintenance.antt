@@ -14,7 +14,6 @@ use Prim.Native.Nat.{ℕ, suc, _/_, _%_, _^_, _≤_, _<_}
 use mathlib.Core.Path.{_≡_}
 use mathlib.Core.Bool.{Bool, true, false, cond, not, _&&_}
 use mathlib.Core.List.{List, [], _∷_, _++_}
-use lib.Dec.{eqb}
 use lib.ListN.{replicate}
 use Rattle.wire.specs.Machine.{start, stop, clock}
 use Rattle.wire.specs.declared.Phase.the-variants.{Idle}

@@ -4,13 +4,13 @@
 -- Assumes nothing.
 use Prim.Native.Nat.{ℕ, zero, suc}
 use mathlib.Core.Path.{_≡_}
-use mathlib.Core.Bool.{Bool, true, cond}
+use mathlib.Core.Bool.{true, cond}
 use mathlib.Core.List.{List, [], _∷_}
 use Rattle.wire.specs.declared.Phase.the-variants.{Idle}
 use Rattle.device.specs.Event.{Happening}
 use Rattle.device.specs.declared.State.{State}
 use Rattle.rig.specs.Run.{runOf}
-use Rattle.lamps.specs.History.{Moment, History, moment, happened, pastOf}
+use Rattle.lamps.specs.History.{History, moment, happened, pastOf}
 use Rattle.lamps.specs.Log.{isClock, markOf}
 use Rattle.lamps.specs.Lit.{isFailure, none}
 use Rattle.lamps.specs.declared.Mark.{Mark}

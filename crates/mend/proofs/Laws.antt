@@ -3,10 +3,10 @@
 -- state put right differs in these alone. A well-formed state put right is well-formed, so its image is accepted again; and
 -- there it is valid, so it stays.
 -- Assumes nothing.
-use Prim.Native.Nat.{ℕ, _*_, _≤_}
+use Prim.Native.Nat.{ℕ, _≤_}
 use mathlib.Core.Path.{_≡_, refl, sym, ap, subst, _∙_}
-use mathlib.Core.Bool.{Bool, true}
-use mathlib.Core.List.{List, [], _∷_, _++_, append-nil}
+use mathlib.Core.Bool.{true}
+use mathlib.Core.List.{List, [], append-nil}
 use native.Mathlib.Omega.{arith}
 use native.Mathlib.Nat.{zero-add}
 use lib.Dec.{T}
@@ -25,7 +25,6 @@ use Rattle.device.specs.Numbers.{accepted}
 use Rattle.device.specs.declared.State.{State}
 use Rattle.device.proofs.Entry.{limits-of, of-limits}
 use Rattle.rig.specs.Image.{calendarBytes, calendarAt, imageOf, decodeOf}
-use Rattle.rig.specs.Reading.{WrittenBy}
 use Rattle.rig.proofs.Images.{decode-image, image-registers}
 use Rattle.mend.specs.Changes.{changesFrom, changedCount}
 use Rattle.mend.specs.Mend.{Outcome, mendedCompanion, mendedState, timeBytes, changesIn, written, mendOf}

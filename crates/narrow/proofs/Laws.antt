@@ -10,7 +10,7 @@ use Rattle.wire.proofs.Tests.{by-test}
 use Rattle.device.specs.Numbers.{accepted}
 use Rattle.rig.specs.Run.{Outcome, outcomeOf}
 use Rattle.rig.proofs.Ends.{run-count, run-refused}
-use Rattle.narrow.specs.Number.{Numbered, NumberSettled}
+use Rattle.narrow.specs.Number.{NumberSettled}
 use Rattle.narrow.specs.Laws.{CountByNumber}
 
 pub count-by-number : CountByNumber

@@ -1,9 +1,9 @@
 -- SPDX-License-Identifier: Apache-2.0
 -- The record's bytes that a call leaves are taken by the next call.
 -- Assumes nothing.
-use Prim.Native.Nat.{ℕ, _+_, _-_, _*_, _/_, _%_, _≤_, _<_}
-use mathlib.Core.Path.{_≡_, refl, sym, ap, _∙_}
-use mathlib.Core.Bool.{Bool, true, false, cond, _&&_}
+use Prim.Native.Nat.{ℕ, _-_, _/_, _<_}
+use mathlib.Core.Path.{_≡_, refl}
+use mathlib.Core.Bool.{Bool, true, false, _&&_}
 use mathlib.Core.List.{List, [], _∷_}
 use native.Mathlib.Omega.{arith}
 use lib.Dec.{eqb, leb}
@@ -21,17 +21,14 @@ use Rattle.device.specs.declared.State.{State}
 use Rattle.device.specs.declared.Answered.{Answered}
 use Rattle.device.proofs.Entry.{ready}
 use Rattle.device.proofs.Wellformed.{event-ok}
-use Rattle.rig.specs.Image.{decodeOf}
-use Rattle.rig.specs.declared.Decoded.the-variants.{Good}
 use Rattle.rig.proofs.Images.{image-decode}
 use Rattle.lamps.specs.Step.{bit, lampNext, markBy, gathered, followed, stepOf}
 use Rattle.lamps.specs.Statement.{answeredBy, provenBy}
-use Rattle.proving.specs.Kept.{keptOf, bytesOf, lampFits, lampIn, lampsIn, lampsFit, isKept}
+use Rattle.proving.specs.Kept.{keptOf, bytesOf, lampFits, lampsIn, lampsFit, isKept}
 use Rattle.lamps.specs.declared.Mark.{Mark}
 use Rattle.lamps.specs.declared.Mark.the-variants.{Failed, Ended, Ticked, Gave, Other}
 use Rattle.lamps.specs.declared.Follower.{Follower}
 use Rattle.lamps.specs.declared.Lamp.{Lamp}
-use Rattle.lamps.specs.declared.Lamps.{Lamps}
 use Rattle.lamps.specs.declared.Proving.{Proving}
 use Rattle.proving.specs.Laws.{TakenAgain}
 use Rattle.proving.proofs.Loop.{kept-length}

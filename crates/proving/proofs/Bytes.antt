@@ -2,21 +2,19 @@
 -- A record's bytes hold that record, so nothing is lost between calls; zeros are the record before any event; a list run in
 -- pieces, with the record handed on, is the list run whole; and nothing but the outcome satisfies the contract.
 -- Assumes nothing.
-use Prim.Native.Nat.{ℕ, _+_, _*_, _/_, _%_}
-use mathlib.Core.Path.{_≡_, refl, sym, ap, _∙_}
-use mathlib.Core.Bool.{Bool, true, false, cond}
-use mathlib.Core.List.{List, [], _∷_, _++_}
+use Prim.Native.Nat.{ℕ}
+use mathlib.Core.Path.{_≡_, refl, sym, _∙_}
+use mathlib.Core.Bool.{Bool, true, false}
+use mathlib.Core.List.{List, [], _∷_}
 use native.Mathlib.Nat.{div-add-mod'}
 use lib.Dec.{eqb}
 use Rattle.device.specs.Event.{eventOf}
-use Rattle.device.specs.declared.State.{State}
 use Rattle.rig.specs.Run.{runOf}
-use Rattle.lamps.specs.Step.{begun, bit, stepOf}
-use Rattle.lamps.specs.Statement.{answeredBy, provenBy}
+use Rattle.lamps.specs.Step.{bit, stepOf}
+use Rattle.lamps.specs.Statement.{answeredBy}
 use Rattle.proving.specs.Kept.{keptOf, bytesOf, isKept}
-use Rattle.proving.specs.Run.{seen, LampsSettled, Outcome, outcomeOf}
+use Rattle.proving.specs.Run.{seen, LampsSettled}
 use Rattle.proving.specs.Laws.{KeptBytes, NoneKept, InPieces}
-use Rattle.lamps.specs.declared.Proving.{Proving}
 use Rattle.proving.specs.declared.Shown.{Shown}
 
 flag : (t : Bool) → eqb (bit t 1) 1 ≡ t

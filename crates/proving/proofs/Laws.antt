@@ -2,15 +2,13 @@
 -- The list run with the record beside the plain one: the same tests in the same order, on the same image. And its report is
 -- the definition's, since the record of zeros is the one before any event.
 -- Assumes nothing.
-use Prim.Native.Nat.{ℕ, _≤_}
-use mathlib.Core.Path.{_≡_, refl, sym, ap, _∙_}
+use Prim.Native.Nat.{ℕ}
+use mathlib.Core.Path.{_≡_, refl, ap, _∙_}
 use mathlib.Core.Bool.{Bool, true, false, cond}
 use mathlib.Core.List.{List}
 use native.Mathlib.Omega.{arith}
 use lib.Dec.{leb, eqb}
 use lib.ListN.{length, replicate}
-use Rattle.wire.proofs.Tests.{by-test}
-use Rattle.wire.specs.declared.Phase.the-variants.{Idle}
 use Rattle.device.specs.Chip.{memorySize}
 use Rattle.device.specs.Numbers.{accepted, wrongMemory, wrongState, unknownEvent, shortAnswers}
 use Rattle.device.specs.declared.State.{State}
@@ -21,12 +19,12 @@ use Rattle.rig.specs.Run as Plain
 use Rattle.rig.specs.declared.Decoded.{Decoded}
 use Rattle.rig.specs.declared.Decoded.the-variants.{Good, Bad}
 use Rattle.lamps.specs.Step.{begun, reportOf}
-use Rattle.lamps.specs.Statement.{provenBy, deserved, logged}
+use Rattle.lamps.specs.Statement.{provenBy}
 use Rattle.lamps.specs.declared.Proving.{Proving}
 use Rattle.lamps.proofs.Proven.{proven}
 use Rattle.proving.specs.Kept.{keptSize, keptOf, isKept}
 use Rattle.proving.specs.Run.{Outcome, refused, written, onDecoded, outcomeOf}
-use Rattle.proving.specs.Laws.{SameAsList, AsTheListRun, ReportsTheDefinition}
+use Rattle.proving.specs.Laws.{AsTheListRun, ReportsTheDefinition}
 use Rattle.proving.proofs.Bytes.{none-kept}
 
 -- two outcomes that a caller of the plain list run cannot tell apart, but for the count

@@ -1,13 +1,13 @@
 -- SPDX-License-Identifier: Apache-2.0
 -- The loop of the list run with the record, one event more and at the end; and the ways through the entry's tests.
 -- Assumes nothing.
-use Prim.Native.Nat.{ℕ, suc, _+_, _≤_, _<_}
-use mathlib.Core.Path.{_≡_, refl, sym, ap, _∙_}
+use Prim.Native.Nat.{ℕ, _+_, _≤_, _<_}
+use mathlib.Core.Path.{_≡_, sym, ap, _∙_}
 use mathlib.Core.Bool.{Bool, true, false, cond}
-use mathlib.Core.List.{List, [], _∷_, _++_}
+use mathlib.Core.List.{List}
 use native.Mathlib.Omega.{arith}
 use native.Mathlib.Numerals.{add-one}
-use lib.Dec.{leb, eqb}
+use lib.Dec.{eqb}
 use lib.ListN.{length, getD, drop, drop-of-length-le}
 use lib.Seq.{drop-cons}
 use borrow.Author.Tests.{le-leb, lt-leb, eq-eqb, ne-eqb, eqb-true}
@@ -17,7 +17,7 @@ use Rattle.device.specs.Chip.{memorySize}
 use Rattle.device.specs.Event.{eventOf}
 use Rattle.device.specs.declared.State.{State}
 use Rattle.rig.specs.Image.{imageOf, decodeOf}
-use Rattle.rig.specs.Run.{runOf, allKnown, RanThrough}
+use Rattle.rig.specs.Run.{runOf, allKnown}
 use Rattle.rig.specs.declared.Decoded.the-variants.{Good, Bad}
 use Rattle.lamps.specs.Step.{stepOf, reportOf}
 use Rattle.lamps.specs.Statement.{answeredBy, provenBy}

@@ -2,9 +2,9 @@
 -- What the lines of the two transactions say. Each data byte's nine lines stand nine places on, so a list by place is what
 -- the first nine say, and then what the rest says.
 -- Assumes nothing.
-use Prim.Native.Nat.{ℕ, zero, suc, _+_, _*_, _%_, _<_}
+use Prim.Native.Nat.{ℕ, zero, suc, _+_, _*_}
 use mathlib.Core.Path.{_≡_, refl, sym, ap, _∙_}
-use mathlib.Core.Bool.{Bool, true, false, cond, not, _&&_}
+use mathlib.Core.Bool.{Bool, true, false, cond}
 use mathlib.Core.List.{List, [], _∷_, _++_}
 use native.Mathlib.Omega.{arith}
 use lib.ListN.{length, drop, getD, replicate, length-replicate}
@@ -16,7 +16,7 @@ use Rattle.wire.proofs.Whole.{made}
 use Rattle.device.specs.Chip.{memorySize}
 use Rattle.master.specs.Told.{isLow, byteFrom, isOpen, isOpenRead, listOf, flagAt, byteAt, flagsOf, bytesOf}
 use Rattle.roundtrip.specs.Stretch.{AllBytes, flagsBy, fetchedFrom}
-use Rattle.roundtrip.proofs.Transactions.{openLines, unheardLines, writeLines, onLines, readLines, wholeWrite, wholeRead}
+use Rattle.roundtrip.proofs.Transactions.{openLines, unheardLines, writeLines, readLines, wholeWrite, wholeRead}
 
 -- a list by place, its first value by itself
 list-shift : (f : ℕ → ℕ) (n : ℕ) → listOf f (suc n) ≡ f 0 ∷ listOf (λ i. f (suc i)) n

@@ -4,7 +4,7 @@
 -- Assumes nothing.
 use Prim.Native.Nat.{ℕ, zero, suc, _+_, _/_, _%_, _≤_, _<_}
 use mathlib.Core.Path.{_≡_, refl, sym, ap, _∙_}
-use mathlib.Core.Bool.{Bool, true, false, _&&_}
+use mathlib.Core.Bool.{Bool, true, false}
 use mathlib.Core.List.{List, [], _∷_, _++_, append-nil, append-assoc}
 use native.Mathlib.Omega.{arith}
 use lib.Dec.{leb}
@@ -12,7 +12,6 @@ use lib.ListN.{length, take, drop, drop-of-length-le}
 use lib.Seq.{take-append-seam}
 use borrow.Author.Tests.{le-leb, lt-ltb, eq-eqb, ne-eqb}
 use Rattle.device.specs.Chip.{memorySize}
-use Rattle.device.specs.declared.State.{State}
 use Rattle.rig.specs.Image.{imageOf}
 use Rattle.rig.specs.Run.{Ended, runOf, allKnown, answersOver}
 use Rattle.rig.proofs.Images.{decode-image, image-decode}

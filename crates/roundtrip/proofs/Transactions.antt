@@ -1,12 +1,12 @@
 -- SPDX-License-Identifier: Apache-2.0
 -- A master's two transactions on a device on main power: where they lead, and their lines, byte by byte.
 -- Assumes nothing.
-use Prim.Native.Nat.{ℕ, zero, suc, _+_, _*_, _/_, _%_, _<_}
+use Prim.Native.Nat.{ℕ, zero, suc, _+_, _/_, _%_, _<_}
 use mathlib.Core.Path.{_≡_, refl}
 use mathlib.Core.Bool.{Bool, true, false, cond}
 use mathlib.Core.List.{List, [], _∷_, _++_}
 use native.Mathlib.Omega.{arith}
-use lib.ListN.{length, getD, set}
+use lib.ListN.{getD, set}
 use Rattle.wire.specs.Clock.{more}
 use Rattle.wire.specs.Memory.{joined, next, isProtected, refusedByte}
 use Rattle.wire.specs.Whole.{nineBits}

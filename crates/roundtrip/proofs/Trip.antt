@@ -1,22 +1,19 @@
 -- SPDX-License-Identifier: Apache-2.0
 -- What a write and a read tell, and the round trip: the read starts from the state and the memory that the write left.
 -- Assumes nothing.
-use Prim.Native.Nat.{ℕ, zero, suc, _≤_, _<_}
-use mathlib.Core.Path.{_≡_, refl, sym, ap, subst, _∙_}
-use mathlib.Core.Bool.{Bool}
-use mathlib.Core.List.{List, [], _∷_}
+use Prim.Native.Nat.{zero, suc}
+use mathlib.Core.Path.{_≡_, sym, ap, subst, _∙_}
 use native.Mathlib.Omega.{arith}
 use lib.ListN.{length}
 use Rattle.companion.specs.Part.{guardOf}
-use Rattle.device.specs.Chip.{memorySize}
 use Rattle.device.specs.declared.State.{State}
 use Rattle.rig.specs.Run.{runOf}
-use Rattle.master.specs.Events.{writeEvents, readEvents}
+use Rattle.master.specs.Events.{writeEvents}
 use Rattle.master.specs.Told.{flagsOf, bytesOf}
 use Rattle.roundtrip.specs.Stretch.{AllBytes, fetchedFrom}
 use Rattle.roundtrip.specs.Trip.{WriteTells, ReadTells, RoundTrip}
-use Rattle.roundtrip.proofs.Places.{storedAll, free-stored, free-flags, fetched-length, stored-back}
-use Rattle.roundtrip.proofs.Transactions.{wholeRead, write-leads, read-leads}
+use Rattle.roundtrip.proofs.Places.{free-stored, free-flags, fetched-length, stored-back}
+use Rattle.roundtrip.proofs.Transactions.{write-leads, read-leads}
 use Rattle.roundtrip.proofs.Tells.{write-says, read-says}
 
 pub write-told : WriteTells

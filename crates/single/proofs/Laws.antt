@@ -4,36 +4,32 @@
 -- Assumes nothing.
 use Prim.Native.Nat.{ℕ, _+_, _≤_}
 use mathlib.Core.Path.{_≡_, refl, sym, ap, subst, _∙_}
-use mathlib.Core.Bool.{Bool, true, false, not, cond, _||_, true≢false, false≢true}
+use mathlib.Core.Bool.{true, false}
 use mathlib.Core.List.{List, [], _∷_}
 use native.Mathlib.Omega.{arith}
 use lib.Dec.{leb, eqb}
 use lib.ListN.{length, take}
 use borrow.Author.Tests.{eqb-true, eqb-false, leb-true, leb-false, le-leb}
-use Rattle.weights.specs.Weight.{has}
 use Rattle.wire.proofs.Tests.{by-test}
 use Rattle.calendar.specs.Highest.{changedOf}
-use Rattle.calendar.specs.Next.{isValid}
-use Rattle.calendar.specs.declared.Rolled.{Rolled}
 use Rattle.calendar.specs.declared.Rolled.the-variants.{Nothing}
 use Rattle.calendar.proofs.Highest.{changed-self}
-use Rattle.companion.specs.Map.{OSCEN}
 use Rattle.companion.specs.Part.{rolledOf}
 use Rattle.companion.proofs.Says.{tick-rolled, nothing-if-silent, nothing-only-if-silent}
 use Rattle.device.specs.Chip.{memorySize, Done}
 use Rattle.device.specs.Power.{isSupplied}
-use Rattle.device.specs.Event.{happening, eventOf, rolledBy, rolledIn}
+use Rattle.device.specs.Event.{happening, rolledBy, rolledIn}
 use Rattle.device.specs.Numbers.{accepted}
 use Rattle.device.specs.declared.State.{State}
 use Rattle.device.proofs.Cases.{tick-supplied, tick-unsupplied, no-tick}
 use Rattle.rig.specs.Image.{decodeOf}
-use Rattle.rig.specs.Run.{runOf, allKnown, outcomeOf}
+use Rattle.rig.specs.Run.{runOf, allKnown}
 use Rattle.rig.specs.Run as Run
 use Rattle.rig.specs.declared.Decoded.{Decoded}
 use Rattle.rig.specs.declared.Decoded.the-variants.{Good, Bad}
 use Rattle.rig.proofs.Runs.{outcome-written}
 use Rattle.single.specs.Single.{Outcome, singleOf}
-use Rattle.single.specs.Laws.{SameAsList, AsTheListRun, isSilent, SilentExactly, NothingExactly, SaysWhatChanged}
+use Rattle.single.specs.Laws.{AsTheListRun, SilentExactly, NothingExactly, SaysWhatChanged}
 use Rattle.single.proofs.Ways.{single-wrong-memory, single-wrong-image, single-unknown-event, single-short, single-answered}
 
 -- what number 0 says of what was given

@@ -2,22 +2,19 @@
 -- The ways through the entry's tests; that two bytes stored at the front are what is told; and that no second outcome
 -- satisfies the contract.
 -- Assumes nothing.
-use Prim.Native.Nat.{ℕ, suc, _≤_, _<_}
+use Prim.Native.Nat.{ℕ, _≤_, _<_}
 use mathlib.Core.Path.{_≡_, refl, sym, _∙_}
 use mathlib.Core.List.{List, [], _∷_}
 use native.Mathlib.Omega.{arith}
 use lib.ListN.{length, drop, set}
 use borrow.Author.Tests.{eq-eqb, ne-eqb, le-leb, lt-leb}
-use Rattle.calendar.specs.Highest.{rolledNumber}
-use Rattle.calendar.specs.declared.Rolled.{Rolled}
-use Rattle.device.specs.Numbers.{accepted, wrongMemory, wrongState, unknownEvent, shortAnswers}
-use Rattle.device.specs.Chip.{memorySize, Done}
+use Rattle.device.specs.Numbers.{wrongMemory, wrongState, unknownEvent, shortAnswers}
+use Rattle.device.specs.Chip.{memorySize}
 use Rattle.device.specs.Event.{eventOf, rolledIn}
-use Rattle.device.specs.Answer.{answerByte}
 use Rattle.device.specs.declared.State.{State}
-use Rattle.rig.specs.Image.{imageOf, decodeOf}
+use Rattle.rig.specs.Image.{decodeOf}
 use Rattle.rig.specs.declared.Decoded.the-variants.{Good, Bad}
-use Rattle.single.specs.Single.{Outcome, refused, answered, singleOf, SingleSettled}
+use Rattle.single.specs.Single.{refused, answered, singleOf, SingleSettled}
 
 module _ (i m : List ℕ) (e : ℕ) (t : List ℕ) where
   pub single-wrong-memory : (length m ≡ memorySize → ⊥) → singleOf i m e t ≡ refused wrongMemory i m t

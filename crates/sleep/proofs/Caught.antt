@@ -3,12 +3,12 @@
 -- on the number of ticks.
 -- Assumes nothing.
 use Prim.Native.Nat.{ℕ, zero, suc, _+_, _*_, _/_, _%_}
-use mathlib.Core.Path.{_≡_, refl, sym, _∙_, ap, subst}
+use mathlib.Core.Path.{_≡_, refl, sym, _∙_, ap}
 use mathlib.Core.Bool.{Bool, true, false, cond, _&&_, _||_}
 use native.Mathlib.Omega.{arith}
 use native.Mathlib.Nat.{add-zero}
-use lib.Dec.{T, eqb, ltb}
-use borrow.Author.Tests.{eq-eqb, ne-eqb, lt-ltb, le-ltb, ltb-true, ltb-false}
+use lib.Dec.{eqb, ltb}
+use borrow.Author.Tests.{eq-eqb, ne-eqb, lt-ltb}
 use Rattle.weights.specs.Weight.{has, only}
 use Rattle.calendar.specs.Field.{bit}
 use Rattle.calendar.specs.Next.{isValid, nextOf}
@@ -18,8 +18,6 @@ use Rattle.calendar.specs.declared.Calendar.{Calendar}
 use Rattle.calendar.proofs.Tests.{test-true, true-test}
 use Rattle.calendar.proofs.After.{after-valid}
 use Rattle.days.proofs.Later.{after-invalid}
-use Rattle.companion.specs.declared.Alarm.{Alarm}
-use Rattle.companion.specs.declared.Registers.{Registers}
 use Rattle.companion.specs.declared.Companion.{Companion}
 use Rattle.companion.specs.Map.{AF, CF, W, R, OSCEN}
 use Rattle.companion.specs.Control.{flagged, followed}

@@ -9,7 +9,6 @@ use native.Mathlib.Omega.{arith}
 use lib.ListN.{length}
 use Rattle.days.specs.After.{mostTicks}
 use Rattle.device.specs.Chip.{memorySize}
-use Rattle.device.specs.declared.State.{State}
 use Rattle.rig.specs.Image.{imageOf, decodeOf}
 use Rattle.rig.specs.Run.{Outcome}
 use Rattle.rig.specs.Fresh.{Made}

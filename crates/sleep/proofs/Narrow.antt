@@ -4,7 +4,7 @@
 -- y * b + v is in the stretch. Once over the span b.
 -- Assumes nothing.
 use Prim.Native.Nat.{ℕ, _+_, _*_, _-_, _/_, _%_, _≤_, _<_}
-use mathlib.Core.Path.{_≡_, refl, sym, _∙_, ap, subst}
+use mathlib.Core.Path.{_≡_, refl, sym, _∙_, ap}
 use mathlib.Core.Bool.{Bool, true, false, _||_}
 use native.Mathlib.Omega.{arith}
 use native.Mathlib.Nat.{mod-lt, add-mul, one-mul, div-add-mod', le-div-iff-mul-le, div-lt-iff-lt-mul, div-eq-of-lt-le}

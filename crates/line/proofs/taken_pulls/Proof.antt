@@ -2,7 +2,6 @@
 -- The three ways through the tests of the clocks done.
 -- Assumes nothing.
 use borrow.Author.Tests.{lt-ltb, le-ltb, eq-eqb, ne-eqb}
-use mathlib.Core.Path.{_∙_}
 use Rattle.line.specs.Line.{takenPulls}
 use borrow.Author.Needs.{needs}
 use Rattle.line.proofs.taken_pulls.Statement.{statement}

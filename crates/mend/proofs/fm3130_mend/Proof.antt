@@ -3,7 +3,7 @@
 -- image are written. The list has three bytes for each register counted, so what is tested is its length.
 -- Assumes nothing.
 use Prim.Native.Nat.{ℕ, _≤_, _*_}
-use mathlib.Core.Path.{_≡_, refl, sym, ap, _∙_}
+use mathlib.Core.Path.{_≡_, sym, ap, _∙_}
 use native.Mathlib.Omega.{arith}
 use denote.Ref.{now}
 use lib.ListN.{length}

@@ -1,7 +1,7 @@
 -- SPDX-License-Identifier: Apache-2.0
 -- `days::starts::month_of` meets its contract: the month of the day's share, or the one before.
 -- Assumes nothing.
-use mathlib.Core.Path.{_≡_, subst}
+use mathlib.Core.Path.{subst}
 use Prim.Native.Nat.{ℕ, _≤_, _<_}
 use borrow.Author.Needs.{needs}
 use Rattle.days.proofs.Months.{in-share, share-some, before-share}

@@ -1,7 +1,7 @@
 -- SPDX-License-Identifier: Apache-2.0
 -- `days::starts::month_start` meets its contract: the table's entry, and the centuries before it.
 -- Assumes nothing.
-use mathlib.Core.Path.{_≡_, _∙_, ap}
+use mathlib.Core.Path.{_∙_, ap}
 use Prim.Native.Nat.{ℕ, _+_, _*_, _/_}
 use denote.Ref.{now}
 use borrow.Author.Needs.{needs}

@@ -2,7 +2,6 @@
 -- Each number's arm is the definition at that number.
 -- Assumes nothing.
 use borrow.Author.Tests.{ne-eqb}
-use Rattle.handheld.specs.Bus.{holderOf}
 use Rattle.handheld.proofs.bus.holder_of.Statement.{statement}
 use Rattle.handheld.proofs.bus.holder_of.Tie as tie
 

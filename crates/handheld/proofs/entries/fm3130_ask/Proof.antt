@@ -1,9 +1,7 @@
 -- SPDX-License-Identifier: Apache-2.0
 -- The two ways to be refused, and the ask that is answered, each by its law.
 -- Assumes nothing.
-use mathlib.Core.Path.{_≡_, sym, _∙_}
-use denote.Ref.{now}
-use lib.ListN.{length}
+use mathlib.Core.Path.{sym, _∙_}
 use borrow.Author.Needs.{needs}
 use borrow.Author.Tests.{not-true, not-false}
 use Rattle.handheld.proofs.Ways.{one-byte, one-set, ask-unknown, ask-refused, ask-answered}

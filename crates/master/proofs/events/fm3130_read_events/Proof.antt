@@ -3,7 +3,7 @@
 -- after another, the last data byte by itself.
 -- Assumes nothing.
 use Prim.Native.Nat.{_-_}
-use mathlib.Core.Path.{sym, _∙_}
+use mathlib.Core.Path.{sym}
 use native.Mathlib.Omega.{arith}
 use denote.Ref.{now}
 use Rattle.master.proofs.Laying.{laid-then, asked-on-length}
@@ -11,101 +11,71 @@ use Rattle.master.proofs.Ways.{read-too-many, read-none, read-address, 
 use borrow.Author.Needs.{needs}
 use Rattle.master.proofs.events.fm3130_read_events.Statement.{statement}
 use Rattle.master.proofs.events.fm3130_read_events.Tie as tie
-use Rattle.master.proofs.events.fm3130_read_events.Reads as reads
-use Rattle.master.proofs.events.fm3130_read_events.Lts as lts
-use Rattle.master.proofs.lay.lay_asked.Reads as lay-asked-reads
-use Rattle.master.proofs.lay.lay_byte.Reads as lay-byte-reads
-use Rattle.master.proofs.lay.lay_event.Reads as lay-event-reads
-use Rattle.master.proofs.lay.lay_opening.Reads as lay-opening-reads
-use Rattle.master.proofs.numbers.filled.Reads as filled-reads
-use Rattle.master.proofs.numbers.read_count.Reads as read-count-reads
-use Rattle.master.proofs.numbers.refuse.Reads as refuse-reads
 
--- src/events.rt:52:9
 refuse-requires : tie.Need-refuse-requires
 refuse-requires c κs = search needs
 
--- src/events.rt:52:9
 returns : tie.Need-returns
 returns c = let s = c .before .before .before in
     rw (c .refuse .ensures) (sym (read-too-many (s .args .address) (s .args .count) (now (s .args .events)) (c .before .if1 .taken)))
 
--- src/events.rt:55:9
 refuse-requires-2 : tie.Need-refuse-requires-2
 refuse-requires-2 c κs = search needs
 
--- src/events.rt:55:9
 returns-2 : tie.Need-returns-2
 returns-2 c = let s = c .before .before .before .before in
     rw (c .refuse2 .ensures) (sym (read-none (s .args .address) (s .args .count) (now (s .args .events)) (c .before .before .if1 .left) (c .before .if2 .taken)))
 
--- src/events.rt:57:19
 cast-if3 : tie.Need-cast-if3
 cast-if3 c = search needs
 
--- src/events.rt:58:9
 refuse-requires-3 : tie.Need-refuse-requires-3
 refuse-requires-3 c κs = search needs
 
--- src/events.rt:58:9
 returns-3 : tie.Need-returns-3
 returns-3 c = let s = c .before .before .before .before .before in
     rw (c .refuse3 .ensures) (sym (read-address (s .args .address) (s .args .count) (now (s .args .events)) (c .before .before .before .if1 .left) (c .before .before .if2 .left) (c .before .if3 .taken)))
 
--- src/events.rt:60:23
 read-count-requires : tie.Need-read-count-requires
 read-count-requires c κs = search needs
 
--- src/events.rt:61:9
 refuse-requires-4 : tie.Need-refuse-requires-4
 refuse-requires-4 c κs = search needs
 
--- src/events.rt:61:9
 returns-4 : tie.Need-returns-4
 returns-4 c = let s = c .before .before .before .before .before .before .before in
     rw (c .refuse4 .ensures) (sym (read-room (s .args .address) (s .args .count) (now (s .args .events)) (c .before .before .before .before .before .if1 .left) (c .before .before .before .before .if2 .left) (omega arith) (omega arith)))
 
--- src/events.rt:63:30
 cast-lay-opening : tie.Need-cast-lay-opening
 cast-lay-opening c = search needs
 
--- src/events.rt:63:9
 lay-opening-requires : tie.Need-lay-opening-requires
 lay-opening-requires c κs = search needs
 
--- src/events.rt:64:9
 lay-event-requires : tie.Need-lay-event-requires
 lay-event-requires c κs = search needs
 
--- src/events.rt:65:9
 lay-byte-requires : tie.Need-lay-byte-requires
 lay-byte-requires c κs = search needs
 
--- src/events.rt:66:27
 sub-lay-asked : tie.Need-sub-lay-asked
 sub-lay-asked c = search needs
 
--- src/events.rt:66:9
 lay-asked-requires : tie.Need-lay-asked-requires
 lay-asked-requires c κs = search needs
 
--- src/events.rt:67:9
 lay-byte-requires-2 : tie.Need-lay-byte-requires-2
 lay-byte-requires-2 c κs = omega (arith, asked-on-length (c .before .before .before .before .before .before .before .before .before .before .before .before .before .before .before .before .before .before .before .before .before .before .before .args .count - 1))
 
--- src/events.rt:68:12
 lay-event-requires-2 : tie.Need-lay-event-requires-2
 lay-event-requires-2 c κs = omega (arith, asked-on-length (c .before .before .before .before .before .before .before .before .before .before .before .before .before .before .before .before .before .before .before .before .before .before .before .before .before .before .before .args .count - 1))
 
--- src/events.rt:68:5
 filled-requires : tie.Need-filled-requires
 filled-requires c κs = search needs
 
--- src/events.rt:47:1
 same-length : tie.Need-same-length
 same-length c = search needs
 
--- src/events.rt:47:1
 returns-5 : tie.Need-returns-5
 returns-5 c = let s = c .before .before .before .before .before .before .before .before .before .before .before .before .before .before .before .before .before .before .before .before .before .before .before .before .before .before .before .before .before .before .before in
     let some = c .before .before .before .before .before .before .before .before .before .before .before .before .before .before .before .before .before .before .before .before .before .before .before .before .before .before .before .before .if2 .left in

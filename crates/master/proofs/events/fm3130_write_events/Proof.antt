@@ -2,7 +2,7 @@
 -- `master::events::fm3130_write_events` meets its contract: the tests in the order of the numbers, each way by its law; then three pieces laid
 -- one after another.
 -- Assumes nothing.
-use mathlib.Core.Path.{sym, _∙_}
+use mathlib.Core.Path.{sym}
 use native.Mathlib.Omega.{arith}
 use denote.Ref.{now}
 use Rattle.master.specs.Events.{writeEvents}
@@ -11,75 +11,52 @@ use Rattle.master.proofs.Ways.{write-too-many, write-address, write-roo
 use borrow.Author.Needs.{needs}
 use Rattle.master.proofs.events.fm3130_write_events.Statement.{statement}
 use Rattle.master.proofs.events.fm3130_write_events.Tie as tie
-use Rattle.master.proofs.events.fm3130_write_events.Reads as reads
-use Rattle.master.proofs.events.fm3130_write_events.Lts as lts
-use Rattle.master.proofs.lay.lay_event.Reads as lay-event-reads
-use Rattle.master.proofs.lay.lay_opening.Reads as lay-opening-reads
-use Rattle.master.proofs.lay.lay_written.Reads as lay-written-reads
-use Rattle.master.proofs.numbers.filled.Reads as filled-reads
-use Rattle.master.proofs.numbers.refuse.Reads as refuse-reads
-use Rattle.master.proofs.numbers.write_count.Reads as write-count-reads
 
--- src/events.rt:32:9
 refuse-requires : tie.Need-refuse-requires
 refuse-requires c κs = search needs
 
--- src/events.rt:32:9
 returns : tie.Need-returns
 returns c = let s = c .before .before .before .before in
     rw (c .refuse .ensures) (sym (write-too-many (s .args .address) (now (s .args .bytes)) (now (s .args .events)) (c .before .if1 .taken)))
 
--- src/events.rt:34:19
 cast-if2 : tie.Need-cast-if2
 cast-if2 c = search needs
 
--- src/events.rt:35:9
 refuse-requires-2 : tie.Need-refuse-requires-2
 refuse-requires-2 c κs = search needs
 
--- src/events.rt:35:9
 returns-2 : tie.Need-returns-2
 returns-2 c = let s = c .before .before .before .before .before in
     rw (c .refuse2 .ensures) (sym (write-address (s .args .address) (now (s .args .bytes)) (now (s .args .events)) (c .before .before .if1 .left) (c .before .if2 .taken)))
 
--- src/events.rt:37:23
 write-count-requires : tie.Need-write-count-requires
 write-count-requires c κs = search needs
 
--- src/events.rt:38:9
 refuse-requires-3 : tie.Need-refuse-requires-3
 refuse-requires-3 c κs = search needs
 
--- src/events.rt:38:9
 returns-3 : tie.Need-returns-3
 returns-3 c = let s = c .before .before .before .before .before .before .before in
     rw (c .refuse3 .ensures) (sym (write-room (s .args .address) (now (s .args .bytes)) (now (s .args .events)) (c .before .before .before .before .if1 .left) (omega arith) (omega arith)))
 
--- src/events.rt:40:30
 cast-lay-opening : tie.Need-cast-lay-opening
 cast-lay-opening c = search needs
 
--- src/events.rt:40:9
 lay-opening-requires : tie.Need-lay-opening-requires
 lay-opening-requires c κs = search needs
 
--- src/events.rt:41:9
 lay-written-requires : tie.Need-lay-written-requires
 lay-written-requires c κs = search needs
 
--- src/events.rt:42:12
 lay-event-requires : tie.Need-lay-event-requires
 lay-event-requires c κs = omega (arith, written-length (now (c .before .before .before .before .before .before .before .before .before .before .before .before .before .before .before .args .bytes)))
 
--- src/events.rt:42:5
 filled-requires : tie.Need-filled-requires
 filled-requires c κs = search needs
 
--- src/events.rt:27:1
 same-length : tie.Need-same-length
 same-length c = search needs
 
--- src/events.rt:27:1
 returns-4 : tie.Need-returns-4
 unfolding writeEvents
 returns-4 c = let s = c .before .before .before .before .before .before .before .before .before .before .before .before .before .before .before .before .before .before .before in

@@ -10,8 +10,6 @@ use Rattle.master.proofs.Laying.{lay-more, laid-all}
 use borrow.Author.Needs.{needs}
 use Rattle.master.proofs.lay.lay.Statement.{statement}
 use Rattle.master.proofs.lay.lay.Tie as tie
-use Rattle.master.proofs.lay.lay.Reads as reads
-use Rattle.master.proofs.lay.lay.Lts as lts
 
 abbrev Inv-loop : tie.InvT-loop
 Inv-loop from events₀ at i₀ events i = (i ≤ length from) × (length events ≡ length events₀) × (events ≡ sets events₀ at (take i from))
@@ -19,45 +17,35 @@ Inv-loop from events₀ at i₀ events i = (i ≤ length from) × (length events
 abbrev μ-loop : tie.MeasureT-loop
 μ-loop from events₀ at i₀ events i = length from - i
 
--- src/events.rt:50:5
 loop-holds : tie.Need-loop-holds Inv-loop μ-loop
 loop-holds c = search needs
 
--- src/events.rt:51:26
 shared-slice-read-events : tie.Need-shared-slice-read-events Inv-loop μ-loop
 shared-slice-read-events c = search needs
 
--- src/events.rt:51:16
 add-events : tie.Need-add-events Inv-loop μ-loop
 add-events c = search needs
 
--- src/events.rt:51:9
 slice-write-events : tie.Need-slice-write-events Inv-loop μ-loop
 slice-write-events c = search needs
 
--- src/events.rt:52:9
 add-i : tie.Need-add-i Inv-loop μ-loop
 add-i c = search needs
 
--- src/events.rt:50:5
 loop-less : tie.Need-loop-less Inv-loop μ-loop
 loop-less c = search needs
 
--- src/events.rt:50:5
 loop-again : tie.Need-loop-again Inv-loop μ-loop
 loop-again c = let l = c .before .before .loop in
     let s = c .before .before .before in
     (search needs, search needs, rw (l .inv .2) (lay-more (now (s .args .events)) (now (s .args .from)) (s .args .at) (l .i) (search needs)))
 
--- src/events.rt:54:5
 add-result : tie.Need-add-result Inv-loop μ-loop
 add-result c = search needs
 
--- src/events.rt:45:1
 same-length : tie.Need-same-length Inv-loop μ-loop
 same-length c = search needs
 
--- src/events.rt:45:1
 returns : tie.Need-returns Inv-loop μ-loop
 returns c = let l = c .before .loop in
     let s = c .before .before in

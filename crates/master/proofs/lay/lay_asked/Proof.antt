@@ -4,7 +4,6 @@
 use Prim.Native.Nat.{_+_, _*_, _≤_, _-_}
 use mathlib.Core.Path.{_≡_, _∙_}
 use native.Mathlib.Omega.{arith}
-use denote.Ref.{now}
 use lib.ListN.{length}
 use Rattle.master.specs.Events.{askedOn}
 use Rattle.master.specs.Laid.{Laid}
@@ -12,9 +11,6 @@ use Rattle.master.proofs.Laying.{laid-none, laid-then, laid-length, ask
 use borrow.Author.Needs.{needs}
 use Rattle.master.proofs.lay.lay_asked.Statement.{statement}
 use Rattle.master.proofs.lay.lay_asked.Tie as tie
-use Rattle.master.proofs.lay.lay_asked.Reads as reads
-use Rattle.master.proofs.lay.lay_asked.Lts as lts
-use Rattle.master.proofs.lay.lay_byte.Reads as lay-byte-reads
 
 abbrev Inv-loop : tie.InvT-loop
 Inv-loop count events₀ at to₀ i₀ events to i = (i ≤ count) × (to ≡ at + 9 * i) × (length events ≡ length events₀) × Laid events₀ at (askedOn i) to events
@@ -22,23 +18,18 @@ Inv-loop count events₀ at to₀ i₀ events to i = (i ≤ count) × (to ≡ at
 abbrev μ-loop : tie.MeasureT-loop
 μ-loop count events₀ at to₀ i₀ events to i = count - i
 
--- src/events.rt:107:5
 loop-holds : tie.Need-loop-holds Inv-loop μ-loop
 loop-holds c = (search needs, search needs, search needs, laid-none _ _)
 
--- src/events.rt:108:9
 lay-byte-requires : tie.Need-lay-byte-requires Inv-loop μ-loop
 lay-byte-requires c κs = search needs
 
--- src/events.rt:109:9
 add-i : tie.Need-add-i Inv-loop μ-loop
 add-i c = search needs
 
--- src/events.rt:107:5
 loop-less : tie.Need-loop-less Inv-loop μ-loop
 loop-less c = search needs
 
--- src/events.rt:107:5
 loop-again : tie.Need-loop-again Inv-loop μ-loop
 loop-again c =
     let l = c .before .before .before .before .before .loop in
@@ -47,11 +38,9 @@ loop-again c =
     let q = laid-length v in
     (search needs, v .place ∙ omega arith, q ∙ l .inv .2, rw (asked-more (l .i)) at (laid-then (l .inv .3) v))
 
--- src/events.rt:101:1
 same-length : tie.Need-same-length Inv-loop μ-loop
 same-length c = search needs
 
--- src/events.rt:101:1
 returns : tie.Need-returns Inv-loop μ-loop
 returns c = let q : c .before .loop .i ≡ c .before .before .before .args .count = omega arith in rw q at (c .before .loop .inv .3)
 

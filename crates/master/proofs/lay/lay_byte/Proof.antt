@@ -4,28 +4,19 @@
 use borrow.Author.Needs.{needs}
 use Rattle.master.proofs.lay.lay_byte.Statement.{statement}
 use Rattle.master.proofs.lay.lay_byte.Tie as tie
-use Rattle.master.proofs.lay.lay_byte.Reads as reads
-use Rattle.master.proofs.lay.lay_byte.Lts as lts
-use Rattle.master.proofs.lay.lay.Reads as lay-reads
-use Rattle.master.proofs.lay.nine_clocks.Reads as nine-clocks-reads
 
--- src/events.rt:62:18
 nine-clocks-requires : tie.Need-nine-clocks-requires
 nine-clocks-requires c κs = search needs
 
--- src/events.rt:63:9
 slice-aggregate-lay : tie.Need-slice-aggregate-lay
 slice-aggregate-lay c = search needs
 
--- src/events.rt:63:5
 lay-requires : tie.Need-lay-requires
 lay-requires c κs = search needs
 
--- src/events.rt:58:1
 same-length : tie.Need-same-length
 same-length c = search needs
 
--- src/events.rt:58:1
 returns : tie.Need-returns
 returns c = rw (c .before .before .before .before .before .nine-clocks .ensures) at (c .before .before .lay .ensures)
 

@@ -5,40 +5,28 @@ use Rattle.master.proofs.Laying.{laid-then}
 use borrow.Author.Needs.{needs}
 use Rattle.master.proofs.lay.lay_opening.Statement.{statement}
 use Rattle.master.proofs.lay.lay_opening.Tie as tie
-use Rattle.master.proofs.lay.lay_opening.Reads as reads
-use Rattle.master.proofs.lay.lay_opening.Lts as lts
-use Rattle.master.proofs.lay.lay_byte.Reads as lay-byte-reads
-use Rattle.master.proofs.lay.lay_event.Reads as lay-event-reads
 
--- src/events.rt:80:9
 lay-event-requires : tie.Need-lay-event-requires
 lay-event-requires c κs = search needs
 
--- src/events.rt:81:9
 lay-byte-requires : tie.Need-lay-byte-requires
 lay-byte-requires c κs = search needs
 
--- src/events.rt:82:25
 cast-lay-byte : tie.Need-cast-lay-byte
 cast-lay-byte c = search needs
 
--- src/events.rt:82:9
 lay-byte-requires-2 : tie.Need-lay-byte-requires-2
 lay-byte-requires-2 c κs = search needs
 
--- src/events.rt:83:14
 cast-lay-byte-2 : tie.Need-cast-lay-byte-2
 cast-lay-byte-2 c = search needs
 
--- src/events.rt:83:5
 lay-byte-requires-3 : tie.Need-lay-byte-requires-3
 lay-byte-requires-3 c κs = search needs
 
--- src/events.rt:76:1
 same-length : tie.Need-same-length
 same-length c = search needs
 
--- src/events.rt:76:1
 returns : tie.Need-returns
 returns c =
     laid-then (c .before .before .before .before .before .before .before .before .before .before .before .before .before .before .lay-event .ensures)

@@ -13,9 +13,6 @@ use Rattle.master.proofs.Laying.{laid-none, laid-then, laid-length, wri
 use borrow.Author.Needs.{needs}
 use Rattle.master.proofs.lay.lay_written.Statement.{statement}
 use Rattle.master.proofs.lay.lay_written.Tie as tie
-use Rattle.master.proofs.lay.lay_written.Reads as reads
-use Rattle.master.proofs.lay.lay_written.Lts as lts
-use Rattle.master.proofs.lay.lay_byte.Reads as lay-byte-reads
 
 abbrev Inv-loop : tie.InvT-loop
 Inv-loop bytes events₀ at to₀ i₀ events to i = (i ≤ length bytes) × (to ≡ at + 9 * i) × (length events ≡ length events₀) × Laid events₀ at (allWritten (take i bytes)) to events
@@ -23,27 +20,21 @@ Inv-loop bytes events₀ at to₀ i₀ events to i = (i ≤ length bytes) × (to
 abbrev μ-loop : tie.MeasureT-loop
 μ-loop bytes events₀ at to₀ i₀ events to i = length bytes - i
 
--- src/events.rt:93:5
 loop-holds : tie.Need-loop-holds Inv-loop μ-loop
 loop-holds c = (search needs, search needs, search needs, laid-none _ _)
 
--- src/events.rt:94:23
 shared-slice-read-lay-byte : tie.Need-shared-slice-read-lay-byte Inv-loop μ-loop
 shared-slice-read-lay-byte c = search needs
 
--- src/events.rt:94:9
 lay-byte-requires : tie.Need-lay-byte-requires Inv-loop μ-loop
 lay-byte-requires c κs = search needs
 
--- src/events.rt:95:9
 add-i : tie.Need-add-i Inv-loop μ-loop
 add-i c = search needs
 
--- src/events.rt:93:5
 loop-less : tie.Need-loop-less Inv-loop μ-loop
 loop-less c = search needs
 
--- src/events.rt:93:5
 loop-again : tie.Need-loop-again Inv-loop μ-loop
 loop-again c =
     let l = c .before .before .before .before .before .before .loop in
@@ -52,11 +43,9 @@ loop-again c =
     let q = laid-length v in
     (search needs, v .place ∙ omega arith, q ∙ l .inv .2, rw (written-more (now (s .args .bytes)) (l .i) (search needs)) at (laid-then (l .inv .3) v))
 
--- src/events.rt:87:1
 same-length : tie.Need-same-length Inv-loop μ-loop
 same-length c = search needs
 
--- src/events.rt:87:1
 returns : tie.Need-returns Inv-loop μ-loop
 returns c = rw (take-all (c .before .loop .i) (now (c .before .before .before .before .args .bytes)) (c .loop-test .left)) at (c .before .loop .inv .3)
 

@@ -4,80 +4,58 @@
 use borrow.Author.Needs.{needs}
 use Rattle.master.proofs.lay.nine_clocks.Statement.{statement}
 use Rattle.master.proofs.lay.nine_clocks.Tie as tie
-use Rattle.master.proofs.lay.nine_clocks.Reads as reads
-use Rattle.master.proofs.lay.nine_clocks.Lts as lts
-use Rattle.master.proofs.lay.clock.Reads as clock-reads
-use Rattle.wire.proofs.bits.sending_line.Reads as sending-line-reads
 
--- src/lay.rt:42:15
 sending-line-requires : tie.Need-sending-line-requires
 sending-line-requires c κs = search needs
 
--- src/lay.rt:42:9
 clock-requires : tie.Need-clock-requires
 clock-requires c κs = search needs
 
--- src/lay.rt:43:15
 sending-line-requires-2 : tie.Need-sending-line-requires-2
 sending-line-requires-2 c κs = search needs
 
--- src/lay.rt:43:9
 clock-requires-2 : tie.Need-clock-requires-2
 clock-requires-2 c κs = search needs
 
--- src/lay.rt:44:15
 sending-line-requires-3 : tie.Need-sending-line-requires-3
 sending-line-requires-3 c κs = search needs
 
--- src/lay.rt:44:9
 clock-requires-3 : tie.Need-clock-requires-3
 clock-requires-3 c κs = search needs
 
--- src/lay.rt:45:15
 sending-line-requires-4 : tie.Need-sending-line-requires-4
 sending-line-requires-4 c κs = search needs
 
--- src/lay.rt:45:9
 clock-requires-4 : tie.Need-clock-requires-4
 clock-requires-4 c κs = search needs
 
--- src/lay.rt:46:15
 sending-line-requires-5 : tie.Need-sending-line-requires-5
 sending-line-requires-5 c κs = search needs
 
--- src/lay.rt:46:9
 clock-requires-5 : tie.Need-clock-requires-5
 clock-requires-5 c κs = search needs
 
--- src/lay.rt:47:15
 sending-line-requires-6 : tie.Need-sending-line-requires-6
 sending-line-requires-6 c κs = search needs
 
--- src/lay.rt:47:9
 clock-requires-6 : tie.Need-clock-requires-6
 clock-requires-6 c κs = search needs
 
--- src/lay.rt:48:15
 sending-line-requires-7 : tie.Need-sending-line-requires-7
 sending-line-requires-7 c κs = search needs
 
--- src/lay.rt:48:9
 clock-requires-7 : tie.Need-clock-requires-7
 clock-requires-7 c κs = search needs
 
--- src/lay.rt:49:15
 sending-line-requires-8 : tie.Need-sending-line-requires-8
 sending-line-requires-8 c κs = search needs
 
--- src/lay.rt:49:9
 clock-requires-8 : tie.Need-clock-requires-8
 clock-requires-8 c κs = search needs
 
--- src/lay.rt:50:9
 clock-requires-9 : tie.Need-clock-requires-9
 clock-requires-9 c κs = search needs
 
--- src/lay.rt:38:1
 returns : tie.Need-returns
 returns c = simp (c .clock9 .ensures, c .before .clock8 .ensures, c .before .before .sending-line8 .ensures, c .before .before .before .clock7 .ensures, c .before .before .before .before .sending-line7 .ensures, c .before .before .before .before .before .clock6 .ensures, c .before .before .before .before .before .before .sending-line6 .ensures, c .before .before .before .before .before .before .before .clock5 .ensures, c .before .before .before .before .before .before .before .before .sending-line5 .ensures, c .before .before .before .before .before .before .before .before .before .clock4 .ensures, c .before .before .before .before .before .before .before .before .before .before .sending-line4 .ensures, c .before .before .before .before .before .before .before .before .before .before .before .clock3 .ensures, c .before .before .before .before .before .before .before .before .before .before .before .before .sending-line3 .ensures, c .before .before .before .before .before .before .before .before .before .before .before .before .before .clock2 .ensures, c .before .before .before .before .before .before .before .before .before .before .before .before .before .before .sending-line2 .ensures, c .before .before .before .before .before .before .before .before .before .before .before .before .before .before .before .clock .ensures, c .before .before .before .before .before .before .before .before .before .before .before .before .before .before .before .before .sending-line .ensures)
 

@@ -4,71 +4,52 @@
 use borrow.Author.Needs.{needs}
 use Rattle.master.proofs.told.byte_from.Statement.{statement}
 use Rattle.master.proofs.told.byte_from.Tie as tie
-use Rattle.master.proofs.told.byte_from.Reads as reads
-use Rattle.master.proofs.told.byte_from.Lts as lts
-use Rattle.master.proofs.told.with_line.Reads as with-line-reads
 
--- src/told.rt:69:9
 with-line-requires : tie.Need-with-line-requires
 with-line-requires c κs = search needs
 
--- src/told.rt:70:39
 add-with-line : tie.Need-add-with-line
 add-with-line c = search needs
 
--- src/told.rt:70:9
 with-line-requires-2 : tie.Need-with-line-requires-2
 with-line-requires-2 c κs = search needs
 
--- src/told.rt:71:41
 add-with-line-2 : tie.Need-add-with-line-2
 add-with-line-2 c = search needs
 
--- src/told.rt:71:9
 with-line-requires-3 : tie.Need-with-line-requires-3
 with-line-requires-3 c κs = search needs
 
--- src/told.rt:72:42
 add-with-line-3 : tie.Need-add-with-line-3
 add-with-line-3 c = search needs
 
--- src/told.rt:72:9
 with-line-requires-4 : tie.Need-with-line-requires-4
 with-line-requires-4 c κs = search needs
 
--- src/told.rt:73:41
 add-with-line-4 : tie.Need-add-with-line-4
 add-with-line-4 c = search needs
 
--- src/told.rt:73:9
 with-line-requires-5 : tie.Need-with-line-requires-5
 with-line-requires-5 c κs = search needs
 
--- src/told.rt:74:40
 add-with-line-5 : tie.Need-add-with-line-5
 add-with-line-5 c = search needs
 
--- src/told.rt:74:9
 with-line-requires-6 : tie.Need-with-line-requires-6
 with-line-requires-6 c κs = search needs
 
--- src/told.rt:75:41
 add-with-line-6 : tie.Need-add-with-line-6
 add-with-line-6 c = search needs
 
--- src/told.rt:75:9
 with-line-requires-7 : tie.Need-with-line-requires-7
 with-line-requires-7 c κs = search needs
 
--- src/told.rt:76:31
 add-with-line-7 : tie.Need-add-with-line-7
 add-with-line-7 c = search needs
 
--- src/told.rt:76:5
 with-line-requires-8 : tie.Need-with-line-requires-8
 with-line-requires-8 c κs = search needs
 
--- src/told.rt:65:1
 returns : tie.Need-returns
 returns c = rw (c .with-line8 .ensures, c .before .with-line7 .ensures, c .before .before .with-line6 .ensures, c .before .before .before .with-line5 .ensures, c .before .before .before .before .with-line4 .ensures, c .before .before .before .before .before .with-line3 .ensures, c .before .before .before .before .before .before .with-line2 .ensures, c .before .before .before .before .before .before .before .with-line .ensures)
 

@@ -4,27 +4,19 @@
 use borrow.Author.Needs.{needs}
 use Rattle.master.proofs.told.flag.Statement.{statement}
 use Rattle.master.proofs.told.flag.Tie as tie
-use Rattle.master.proofs.told.flag.Reads as reads
-use Rattle.master.proofs.told.flag.Lts as lts
-use Rattle.master.proofs.told.is_low.Reads as is-low-reads
 
--- src/told.rt:84:37
 mul-is-low : tie.Need-mul-is-low
 mul-is-low c = search needs
 
--- src/told.rt:84:32
 add-is-low : tie.Need-add-is-low
 add-is-low c = search needs
 
--- src/told.rt:84:16
 is-low-requires : tie.Need-is-low-requires
 is-low-requires c κs = search needs
 
--- src/told.rt:80:1
 returns : tie.Need-returns
 returns c = rw (← c .before .before .before .pre .0, ← c .before .is-low .ensures, c .if1 .taken)
 
--- src/told.rt:80:1
 returns-2 : tie.Need-returns-2
 returns-2 c = rw (← c .before .before .before .pre .0, ← c .before .is-low .ensures, c .if1 .left)
 

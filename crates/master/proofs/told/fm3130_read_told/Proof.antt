@@ -4,87 +4,63 @@
 -- Assumes nothing.
 use borrow.Author.Tests.{not-true, not-false}
 use mathlib.Core.Path.{sym, _∙_}
-use native.Mathlib.Omega.{arith}
 use denote.Ref.{now}
 use Rattle.master.proofs.Ways.{read-told-too-many, read-told-none, read-told-room, read-told-answers, read-told-shut, read-told-done}
 use borrow.Author.Needs.{needs}
 use Rattle.master.proofs.told.fm3130_read_told.Statement.{statement}
 use Rattle.master.proofs.told.fm3130_read_told.Tie as tie
-use Rattle.master.proofs.told.fm3130_read_told.Reads as reads
-use Rattle.master.proofs.told.fm3130_read_told.Lts as lts
-use Rattle.master.proofs.numbers.filled.Reads as filled-reads
-use Rattle.master.proofs.numbers.read_count.Reads as read-count-reads
-use Rattle.master.proofs.numbers.refuse.Reads as refuse-reads
-use Rattle.master.proofs.told.is_open_read.Reads as is-open-read-reads
-use Rattle.master.proofs.told.put_bytes.Reads as put-bytes-reads
 
--- src/told.rt:141:9
 refuse-requires : tie.Need-refuse-requires
 refuse-requires c κs = search needs
 
--- src/told.rt:141:9
 returns : tie.Need-returns
 returns c = let s = c .before .before .before .before in
     rw (c .refuse .ensures) (sym (read-told-too-many (s .args .count) (now (s .args .answers)) (now (s .args .bytes)) (c .before .if1 .taken)))
 
--- src/told.rt:144:9
 refuse-requires-2 : tie.Need-refuse-requires-2
 refuse-requires-2 c κs = search needs
 
--- src/told.rt:144:9
 returns-2 : tie.Need-returns-2
 returns-2 c = let s = c .before .before .before .before .before in
     rw (c .refuse2 .ensures) (sym (read-told-none (s .args .count) (now (s .args .answers)) (now (s .args .bytes)) (c .before .before .if1 .left) (c .before .if2 .taken)))
 
--- src/told.rt:148:9
 refuse-requires-3 : tie.Need-refuse-requires-3
 refuse-requires-3 c κs = search needs
 
--- src/told.rt:148:9
 returns-3 : tie.Need-returns-3
 returns-3 c = let s = c .before .before .before .before .before .before in
     rw (c .refuse3 .ensures) (sym (read-told-room (s .args .count) (now (s .args .answers)) (now (s .args .bytes)) (c .before .before .before .if1 .left) (c .before .before .if2 .left) (c .before .if3 .taken)))
 
--- src/told.rt:150:25
 read-count-requires : tie.Need-read-count-requires
 read-count-requires c κs = search needs
 
--- src/told.rt:151:9
 refuse-requires-4 : tie.Need-refuse-requires-4
 refuse-requires-4 c κs = search needs
 
--- src/told.rt:151:9
 returns-4 : tie.Need-returns-4
 returns-4 c = let s = c .before .before .before .before .before .before .before .before in
     rw (c .refuse4 .ensures) (sym (read-told-answers (s .args .count) (now (s .args .answers)) (now (s .args .bytes)) (c .before .before .before .before .before .if1 .left) (c .before .before .before .before .if2 .left) (c .before .before .before .if3 .left) (λ e. c .before .if4 .taken (e ∙ sym (c .before .before .read-count .ensures)))))
 
--- src/told.rt:153:9
 is-open-read-requires : tie.Need-is-open-read-requires
 is-open-read-requires c κs = search needs
 
--- src/told.rt:154:9
 filled-requires : tie.Need-filled-requires
 filled-requires c κs = search needs
 
--- src/told.rt:154:9
 returns-5 : tie.Need-returns-5
 returns-5 c = let s = c .before .before .before .before .before .before .before .before .before .before in
     rw (c .filled .ensures)
     (sym (read-told-shut (s .args .count) (now (s .args .answers)) (now (s .args .bytes)) (c .before .before .before .before .before .before .before .if1 .left) (c .before .before .before .before .before .before .if2 .left) (c .before .before .before .before .before .if3 .left) (c .before .before .before .if4 .left ∙ c .before .before .before .before .read-count .ensures) (sym (c .before .before .is-open-read .ensures) ∙ not-true _ (c .before .if5 .taken))))
 
--- src/told.rt:156:5
 put-bytes-requires : tie.Need-put-bytes-requires
 put-bytes-requires c κs = search needs
 
--- src/told.rt:157:5
 filled-requires-2 : tie.Need-filled-requires-2
 filled-requires-2 c κs = search needs
 
--- src/told.rt:136:1
 same-length : tie.Need-same-length
 same-length c = search needs
 
--- src/told.rt:136:1
 returns-6 : tie.Need-returns-6
 returns-6 c = let s = c .before .before .before .before .before .before .before .before .before .before .before .before .before .before in
     rw (c .filled2 .ensures)

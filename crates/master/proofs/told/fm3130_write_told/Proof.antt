@@ -2,63 +2,45 @@
 -- `master::told::fm3130_write_told` meets its contract: the tests in the order of the numbers, each way by its law; then the flags.
 -- Assumes nothing.
 use mathlib.Core.Path.{sym, _∙_}
-use native.Mathlib.Omega.{arith}
 use denote.Ref.{now}
 use Rattle.master.proofs.Ways.{write-told-too-many, write-told-room, write-told-answers, write-told-done}
 use borrow.Author.Needs.{needs}
 use Rattle.master.proofs.told.fm3130_write_told.Statement.{statement}
 use Rattle.master.proofs.told.fm3130_write_told.Tie as tie
-use Rattle.master.proofs.told.fm3130_write_told.Reads as reads
-use Rattle.master.proofs.told.fm3130_write_told.Lts as lts
-use Rattle.master.proofs.numbers.filled.Reads as filled-reads
-use Rattle.master.proofs.numbers.refuse.Reads as refuse-reads
-use Rattle.master.proofs.numbers.write_count.Reads as write-count-reads
-use Rattle.master.proofs.told.put_flags.Reads as put-flags-reads
 
--- src/told.rt:122:9
 refuse-requires : tie.Need-refuse-requires
 refuse-requires c κs = search needs
 
--- src/told.rt:122:9
 returns : tie.Need-returns
 returns c = let s = c .before .before .before .before in
     rw (c .refuse .ensures) (sym (write-told-too-many (s .args .count) (now (s .args .answers)) (now (s .args .flags)) (c .before .if1 .taken)))
 
--- src/told.rt:126:9
 refuse-requires-2 : tie.Need-refuse-requires-2
 refuse-requires-2 c κs = search needs
 
--- src/told.rt:126:9
 returns-2 : tie.Need-returns-2
 returns-2 c = let s = c .before .before .before .before .before in
     rw (c .refuse2 .ensures) (sym (write-told-room (s .args .count) (now (s .args .answers)) (now (s .args .flags)) (c .before .before .if1 .left) (c .before .if2 .taken)))
 
--- src/told.rt:128:25
 write-count-requires : tie.Need-write-count-requires
 write-count-requires c κs = search needs
 
--- src/told.rt:129:9
 refuse-requires-3 : tie.Need-refuse-requires-3
 refuse-requires-3 c κs = search needs
 
--- src/told.rt:129:9
 returns-3 : tie.Need-returns-3
 returns-3 c = let s = c .before .before .before .before .before .before .before in
     rw (c .refuse3 .ensures) (sym (write-told-answers (s .args .count) (now (s .args .answers)) (now (s .args .flags)) (c .before .before .before .before .if1 .left) (c .before .before .before .if2 .left) (λ e. c .before .if3 .taken (e ∙ sym (c .before .before .write-count .ensures)))))
 
--- src/told.rt:131:5
 put-flags-requires : tie.Need-put-flags-requires
 put-flags-requires c κs = search needs
 
--- src/told.rt:132:5
 filled-requires : tie.Need-filled-requires
 filled-requires c κs = search needs
 
--- src/told.rt:117:1
 same-length : tie.Need-same-length
 same-length c = search needs
 
--- src/told.rt:117:1
 returns-4 : tie.Need-returns-4
 returns-4 c = let s = c .before .before .before .before .before .before .before .before .before .before .before in
     rw (c .filled .ensures)

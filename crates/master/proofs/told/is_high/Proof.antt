@@ -6,14 +6,10 @@ use Rattle.master.proofs.Laying.{line-at}
 use borrow.Author.Needs.{needs}
 use Rattle.master.proofs.told.is_high.Statement.{statement}
 use Rattle.master.proofs.told.is_high.Tie as tie
-use Rattle.master.proofs.told.is_high.Reads as reads
-use Rattle.master.proofs.told.is_high.Lts as lts
 
--- src/told.rt:29:5
 shared-slice-read-result : tie.Need-shared-slice-read-result
 shared-slice-read-result c = search needs
 
--- src/told.rt:25:1
 returns : tie.Need-returns
 returns c = line-at (now (c .before .args .answers)) (c .before .args .at) (search needs)
 

@@ -4,23 +4,16 @@
 use borrow.Author.Needs.{needs}
 use Rattle.master.proofs.told.is_open.Statement.{statement}
 use Rattle.master.proofs.told.is_open.Tie as tie
-use Rattle.master.proofs.told.is_open.Reads as reads
-use Rattle.master.proofs.told.is_open.Lts as lts
-use Rattle.master.proofs.told.is_low.Reads as is-low-reads
 
--- src/told.rt:45:5
 is-low-requires : tie.Need-is-low-requires
 is-low-requires c κs = search needs
 
--- src/told.rt:45:27
 is-low-requires-2 : tie.Need-is-low-requires-2
 is-low-requires-2 c κs = search needs
 
--- src/told.rt:45:49
 is-low-requires-3 : tie.Need-is-low-requires-3
 is-low-requires-3 c κs = search needs
 
--- src/told.rt:41:1
 returns : tie.Need-returns
 returns c = rw (c .is-low3 .ensures, c .before .is-low2 .ensures, c .before .before .is-low .ensures)
 

@@ -13,9 +13,6 @@ use Rattle.master.proofs.Laying.{listed-more}
 use borrow.Author.Needs.{needs}
 use Rattle.master.proofs.told.put_bytes.Statement.{statement}
 use Rattle.master.proofs.told.put_bytes.Tie as tie
-use Rattle.master.proofs.told.put_bytes.Reads as reads
-use Rattle.master.proofs.told.put_bytes.Lts as lts
-use Rattle.master.proofs.told.byte_from.Reads as byte-from-reads
 
 abbrev Inv-loop : tie.InvT-loop
 Inv-loop count answers bytes₀ i₀ bytes i = (i ≤ count) × (length bytes ≡ length bytes₀) × (bytes ≡ sets bytes₀ 0 (listOf (byteAt (linesOf answers)) i))
@@ -23,46 +20,36 @@ Inv-loop count answers bytes₀ i₀ bytes i = (i ≤ count) × (length bytes �
 abbrev μ-loop : tie.MeasureT-loop
 μ-loop count answers bytes₀ i₀ bytes i = count - i
 
--- src/told.rt:88:5
 loop-holds : tie.Need-loop-holds Inv-loop μ-loop
 loop-holds c = search needs
 
--- src/told.rt:89:44
 mul-byte-from : tie.Need-mul-byte-from Inv-loop μ-loop
 mul-byte-from c = search needs
 
--- src/told.rt:89:39
 add-byte-from : tie.Need-add-byte-from Inv-loop μ-loop
 add-byte-from c = search needs
 
--- src/told.rt:89:20
 byte-from-requires : tie.Need-byte-from-requires Inv-loop μ-loop
 byte-from-requires c κs = search needs
 
--- src/told.rt:89:9
 slice-write-bytes : tie.Need-slice-write-bytes Inv-loop μ-loop
 slice-write-bytes c = search needs
 
--- src/told.rt:90:9
 add-i : tie.Need-add-i Inv-loop μ-loop
 add-i c = search needs
 
--- src/told.rt:88:5
 loop-less : tie.Need-loop-less Inv-loop μ-loop
 loop-less c = search needs
 
--- src/told.rt:88:5
 loop-again : tie.Need-loop-again Inv-loop μ-loop
 loop-again c =
     let l = c .before .before .loop in
     let s = c .before .before .before .before .before in
     (search needs, search needs, rw (c .byte-from .ensures, l .inv .2) (listed-more (now (s .args .bytes)) (byteAt (linesOf (now (s .args .answers)))) (l .i)))
 
--- src/told.rt:83:1
 same-length : tie.Need-same-length Inv-loop μ-loop
 same-length c = search needs
 
--- src/told.rt:83:1
 returns : tie.Need-returns Inv-loop μ-loop
 returns c =
     let q : c .before .loop .i ≡ c .before .before .before .before .args .count = omega arith in rw q at (c .before .loop .inv .2)

@@ -13,10 +13,6 @@ use Rattle.master.proofs.Laying.{listed-more}
 use borrow.Author.Needs.{needs}
 use Rattle.master.proofs.told.put_flags.Statement.{statement}
 use Rattle.master.proofs.told.put_flags.Tie as tie
-use Rattle.master.proofs.told.put_flags.Reads as reads
-use Rattle.master.proofs.told.put_flags.Lts as lts
-use Rattle.master.proofs.told.flag.Reads as flag-reads
-use Rattle.master.proofs.told.is_open.Reads as is-open-reads
 
 abbrev Inv-loop : tie.InvT-loop
 Inv-loop count answers flags₀ ready i₀ flags i = (i ≤ count) × (length flags ≡ length flags₀) × (flags ≡ sets flags₀ 0 (listOf (flagAt (linesOf answers)) i))
@@ -24,42 +20,33 @@ Inv-loop count answers flags₀ ready i₀ flags i = (i ≤ count) × (length fl
 abbrev μ-loop : tie.MeasureT-loop
 μ-loop count answers flags₀ ready i₀ flags i = count - i
 
--- src/told.rt:83:9
 is-open-requires : tie.Need-is-open-requires Inv-loop μ-loop
 is-open-requires c κs = search needs
 
--- src/told.rt:85:5
 loop-holds : tie.Need-loop-holds Inv-loop μ-loop
 loop-holds c = search needs
 
--- src/told.rt:86:20
 flag-requires : tie.Need-flag-requires Inv-loop μ-loop
 flag-requires c κs = (c .before .before .is-open .ensures, search needs)
 
--- src/told.rt:86:9
 slice-write-flags : tie.Need-slice-write-flags Inv-loop μ-loop
 slice-write-flags c = search needs
 
--- src/told.rt:87:9
 add-i : tie.Need-add-i Inv-loop μ-loop
 add-i c = search needs
 
--- src/told.rt:85:5
 loop-less : tie.Need-loop-less Inv-loop μ-loop
 loop-less c = search needs
 
--- src/told.rt:85:5
 loop-again : tie.Need-loop-again Inv-loop μ-loop
 loop-again c =
     let l = c .before .before .loop in
     let s = c .before .before .before .before .before .before in
     (search needs, search needs, rw (c .flag .ensures, l .inv .2) (listed-more (now (s .args .flags)) (flagAt (linesOf (now (s .args .answers)))) (l .i)))
 
--- src/told.rt:79:1
 same-length : tie.Need-same-length Inv-loop μ-loop
 same-length c = search needs
 
--- src/told.rt:79:1
 returns : tie.Need-returns Inv-loop μ-loop
 returns c =
     let q : c .before .loop .i ≡ c .before .before .before .before .before .args .count = omega arith in rw q at (c .before .loop .inv .2)

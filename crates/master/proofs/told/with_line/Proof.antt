@@ -4,20 +4,13 @@
 use borrow.Author.Needs.{needs}
 use Rattle.master.proofs.told.with_line.Statement.{statement}
 use Rattle.master.proofs.told.with_line.Tie as tie
-use Rattle.master.proofs.told.with_line.Reads as reads
-use Rattle.master.proofs.told.with_line.Lts as lts
-use Rattle.master.proofs.told.is_high.Reads as is-high-reads
-use Rattle.wire.proofs.bits.push.Reads as push-reads
 
--- src/told.rt:61:16
 is-high-requires : tie.Need-is-high-requires
 is-high-requires c κs = search needs
 
--- src/told.rt:61:5
 push-requires : tie.Need-push-requires
 push-requires c κs = search needs
 
--- src/told.rt:57:1
 returns : tie.Need-returns
 returns c = rw (c .push .ensures, c .before .is-high .ensures)
 

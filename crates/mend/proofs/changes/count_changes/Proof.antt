@@ -2,11 +2,11 @@
 -- `mend::changes::count_changes` meets its contract. The loop's invariant: what was counted and the count of what is still
 -- to come are the whole count. The measure is what is left.
 -- Assumes nothing.
-use Prim.Native.Nat.{ℕ, _≤_, _-_, _+_}
-use mathlib.Core.Path.{_≡_, refl}
+use Prim.Native.Nat.{_≤_, _-_, _+_}
+use mathlib.Core.Path.{_≡_}
 use native.Mathlib.Omega.{arith}
 use denote.Ref.{now}
-use lib.ListN.{length, drop, getD}
+use lib.ListN.{length, drop}
 use borrow.Author.Needs.{needs}
 use Rattle.mend.specs.Changes.{changedCount}
 use Rattle.mend.proofs.Listing.{count-step, count-end}

@@ -2,8 +2,8 @@
 -- `mend::changes::write_changes` meets its contract. The loop's invariant: what was written and what is still to come are
 -- the whole list. The measure is what is left.
 -- Assumes nothing.
-use Prim.Native.Nat.{ℕ, _≤_, _-_, _+_, _<_}
-use mathlib.Core.Path.{_≡_, refl}
+use Prim.Native.Nat.{_≤_, _-_, _+_}
+use mathlib.Core.Path.{refl}
 use native.Mathlib.Omega.{arith}
 use denote.Ref.{now}
 use lib.ListN.{length, drop, getD}

@@ -1,35 +1,27 @@
+-- SPDX-License-Identifier: Apache-2.0
+-- `proving::kept::is_kept` meets its contract.
 use borrow.Author.Tests.{ne-eqb, eq-eqb}
 use Rattle.proving.specs.Kept.{isKept}
 use borrow.Author.Needs.{needs}
 use Rattle.proving.proofs.kept.is_kept.Statement.{statement}
 use Rattle.proving.proofs.kept.is_kept.Tie as tie
-use Rattle.proving.proofs.kept.is_kept.Reads as reads
-use Rattle.proving.proofs.kept.is_kept.Lts as lts
-use Rattle.proving.proofs.kept.lamps_fit.Reads as lamps-fit-reads
-use Rattle.proving.proofs.kept.lamps_in.Reads as lamps-in-reads
 
--- src/kept.rt:101:9
 returns : tie.Need-returns
 unfolding isKept
 returns c = rw (ne-eqb _ _ (c .if1 .taken))
 
--- src/kept.rt:103:9
 lamps-in-requires : tie.Need-lamps-in-requires
 lamps-in-requires c κs = search needs
 
--- src/kept.rt:104:6
 shared-slice-read-result : tie.Need-shared-slice-read-result
 shared-slice-read-result c = search needs
 
--- src/kept.rt:104:24
 shared-slice-read-result-2 : tie.Need-shared-slice-read-result-2
 shared-slice-read-result-2 c = search needs
 
--- src/kept.rt:104:41
 lamps-fit-requires : tie.Need-lamps-fit-requires
 lamps-fit-requires c κs = search needs
 
--- src/kept.rt:97:1
 returns-2 : tie.Need-returns-2
 unfolding isKept
 returns-2 c = rw (eq-eqb _ _ (c .before .before .before .before .if1 .left), c .lamps-fit .ensures, c .before .before .before .lamps-in .ensures)

@@ -1,43 +1,33 @@
+-- SPDX-License-Identifier: Apache-2.0
+-- `proving::kept::lamps_in` meets its contract.
 use borrow.Author.Needs.{needs}
 use Rattle.proving.proofs.kept.lamps_in.Statement.{statement}
 use Rattle.proving.proofs.kept.lamps_in.Tie as tie
-use Rattle.proving.proofs.kept.lamps_in.Reads as reads
-use Rattle.proving.proofs.kept.lamps_in.Lts as lts
-use Rattle.proving.proofs.kept.lamp_in.Reads as lamp-in-reads
 
--- src/kept.rt:40:15
 lamp-in-requires : tie.Need-lamp-in-requires
 lamp-in-requires c κs = search needs
 
--- src/kept.rt:41:14
 lamp-in-requires-2 : tie.Need-lamp-in-requires-2
 lamp-in-requires-2 c κs = search needs
 
--- src/kept.rt:42:14
 lamp-in-requires-3 : tie.Need-lamp-in-requires-3
 lamp-in-requires-3 c κs = search needs
 
--- src/kept.rt:43:16
 lamp-in-requires-4 : tie.Need-lamp-in-requires-4
 lamp-in-requires-4 c κs = search needs
 
--- src/kept.rt:44:15
 lamp-in-requires-5 : tie.Need-lamp-in-requires-5
 lamp-in-requires-5 c κs = search needs
 
--- src/kept.rt:45:15
 lamp-in-requires-6 : tie.Need-lamp-in-requires-6
 lamp-in-requires-6 c κs = search needs
 
--- src/kept.rt:46:14
 lamp-in-requires-7 : tie.Need-lamp-in-requires-7
 lamp-in-requires-7 c κs = search needs
 
--- src/kept.rt:47:16
 lamp-in-requires-8 : tie.Need-lamp-in-requires-8
 lamp-in-requires-8 c κs = search needs
 
--- src/kept.rt:35:1
 returns : tie.Need-returns
 returns c = λ k. record { zero = c .before .before .before .before .before .before .before .lamp-in .ensures k; one = c .before .before .before .before .before .before .lamp-in2 .ensures k; two = c .before .before .before .before .before .lamp-in3 .ensures k; three = c .before .before .before .before .lamp-in4 .ensures k; four = c .before .before .before .lamp-in5 .ensures k; five = c .before .before .lamp-in6 .ensures k; six = c .before .lamp-in7 .ensures k; seven = c .lamp-in8 .ensures k }
 

@@ -1,3 +1,5 @@
+-- SPDX-License-Identifier: Apache-2.0
+-- `proving::run::fm3130_lamps` meets its contract.
 use mathlib.Core.Bool.{true}
 use mathlib.Core.Path.{_≡_, sym, _∙_}
 use denote.Ref.{now}
@@ -13,17 +15,6 @@ use Rattle.proving.proofs.Loop.{kept-length, wrong-memory, wrong-image,
 use borrow.Author.Needs.{needs}
 use Rattle.proving.proofs.run.fm3130_lamps.Statement.{statement}
 use Rattle.proving.proofs.run.fm3130_lamps.Tie as tie
-use Rattle.proving.proofs.run.fm3130_lamps.Reads as reads
-use Rattle.proving.proofs.run.fm3130_lamps.Lts as lts
-use Rattle.lamps.proofs.Proving.report.Reads as report-reads
-use Rattle.proving.proofs.kept.is_kept.Reads as is-kept-reads
-use Rattle.proving.proofs.kept.read.Reads as read-reads
-use Rattle.proving.proofs.kept.write.Reads as write-reads
-use Rattle.proving.proofs.run.follow_events.Reads as follow-events-reads
-use Rattle.proving.proofs.run.refuse.Reads as refuse-reads
-use Rattle.rig.proofs.image.decode.Reads as decode-reads
-use Rattle.rig.proofs.image.write_image.Reads as write-image-reads
-use Rattle.rig.proofs.run.all_known.Reads as all-known-reads
 
 abbrev start : tie.After-state → tie.Start
 start c = c .before .before .before .before .before .before .before .before .before .before
@@ -40,153 +31,119 @@ good c = sym (c .before .is-kept .ensures) ∙ not-false _ (c .if2 .left)
 known : (c : tie.Else3) → allKnown (now (start (c .before .before .before .before .before .before) .args .events)) ≡ true
 known c = sym (c .before .all-known .ensures) ∙ not-false _ (c .if3 .left)
 
--- src/run.rt:86:9
 refuse-requires : tie.Need-refuse-requires
 refuse-requires c κs = search needs
 
--- src/run.rt:86:9
 returns : tie.Need-returns
 returns c = rw (c .refuse .ensures) (sym (wrong-memory _ _ _ _ _ (c .before .if1 .taken)))
 
--- src/run.rt:88:32
 decode-requires : tie.Need-decode-requires
 decode-requires c κs = search needs
 
--- src/run.rt:88:23
 enum-known-state : tie.Need-enum-known-state
 enum-known-state c = search needs
 
--- src/run.rt:89:9
 enum-told : tie.Need-enum-told
 enum-told c = search needs
 
--- src/run.rt:89:9
 refuse-requires-2 : tie.Need-refuse-requires-2
 refuse-requires-2 c κs = search needs
 
--- src/run.rt:89:9
 same-length : tie.Need-same-length
 same-length c = search needs
 
--- src/run.rt:89:9
 returns-2 : tie.Need-returns-2
 returns-2 c =
     let d = c .before .before .before in
     let w = settled-decode _ _ (d .decode .ensures) ∙ c .before .enum-told .given .1 in
     rw (c .refuse2 .ensures) (sym (wrong-image _ _ _ _ _ (d .before .before .if1 .left) w))
 
--- src/run.rt:91:9
 is-kept-requires : tie.Need-is-kept-requires
 is-kept-requires c κs = search needs
 
--- src/run.rt:92:9
 refuse-requires-3 : tie.Need-refuse-requires-3
 refuse-requires-3 c κs = search needs
 
--- src/run.rt:92:9
 same-length-2 : tie.Need-same-length-2
 same-length-2 c = search needs
 
--- src/run.rt:92:9
 same-length-3 : tie.Need-same-length-3
 same-length-3 c = search needs
 
--- src/run.rt:92:9
 returns-3 : tie.Need-returns-3
 returns-3 c =
     let d = c .before .before .before .before .before in
     let k = sym (c .before .before .is-kept .ensures) ∙ not-true _ (c .before .if2 .taken) in
     rw (c .refuse3 .ensures) (sym (wrong-kept _ _ _ _ _ (long d) _ (decoded d) k))
 
--- src/run.rt:94:9
 all-known-requires : tie.Need-all-known-requires
 all-known-requires c κs = search needs
 
--- src/run.rt:95:9
 refuse-requires-4 : tie.Need-refuse-requires-4
 refuse-requires-4 c κs = search needs
 
--- src/run.rt:95:9
 same-length-4 : tie.Need-same-length-4
 same-length-4 c = search needs
 
--- src/run.rt:95:9
 same-length-5 : tie.Need-same-length-5
 same-length-5 c = search needs
 
--- src/run.rt:95:9
 returns-4 : tie.Need-returns-4
 returns-4 c =
     let d = c .before .before .before .before .before .before .before in
     let k = sym (c .before .before .all-known .ensures) ∙ not-true _ (c .before .if3 .taken) in
     rw (c .refuse4 .ensures) (sym (unknown-event _ _ _ _ _ (long d) _ (decoded d) (good (c .before .before .before)) k))
 
--- src/run.rt:98:9
 refuse-requires-5 : tie.Need-refuse-requires-5
 refuse-requires-5 c κs = search needs
 
--- src/run.rt:98:9
 same-length-6 : tie.Need-same-length-6
 same-length-6 c = search needs
 
--- src/run.rt:98:9
 same-length-7 : tie.Need-same-length-7
 same-length-7 c = search needs
 
--- src/run.rt:98:9
 returns-5 : tie.Need-returns-5
 returns-5 c =
     let d = c .before .before .before .before .before .before .before .before in
     rw (c .refuse5 .ensures)
     (sym (short-answers _ _ _ _ _ (long d) _ (decoded d) (good (c .before .before .before .before)) (known (c .before .before)) (c .before .if4 .taken)))
 
--- src/run.rt:100:9
 read-requires : tie.Need-read-requires
 read-requires c κs = kept-length _ (good (c .before .before .before .before))
 
--- src/run.rt:101:9
 follow-events-requires : tie.Need-follow-events-requires
 follow-events-requires c κs =
     let d = c .before .before .before .before .before .before .before .before .before .before .before in
     ((image-decode _ _ (decoded d) .0, long d), (known (c .before .before .before .before .before), c .before .before .before .before .if4 .left))
 
--- src/run.rt:104:5
 write-image-requires : tie.Need-write-image-requires
 write-image-requires c κs = decoded-length _ _ (decoded (c .before .before .before .before .before .before .before .before .before .before .before .before .before .before .before .before .before .before .before))
 
--- src/run.rt:105:5
 write-requires : tie.Need-write-requires
 write-requires c κs = kept-length _ (good (c .before .before .before .before .before .before .before .before .before .before .before .before .before .before .before .before .before .before .before))
 
--- src/run.rt:107:17
 cast-t31 : tie.Need-cast-t31
 cast-t31 c = search needs
 
--- src/run.rt:109:17
 report-requires : tie.Need-report-requires
 report-requires c κs = search needs
 
--- src/run.rt:109:17
 cast-t33 : tie.Need-cast-t33
 cast-t33 c = search needs
 
--- src/run.rt:74:1
 same-length-8 : tie.Need-same-length-8
 same-length-8 c = search needs
 
--- src/run.rt:74:1
 same-length-9 : tie.Need-same-length-9
 same-length-9 c = search needs
 
--- src/run.rt:74:1
 same-length-10 : tie.Need-same-length-10
 same-length-10 c = search needs
 
--- src/run.rt:74:1
 same-length-11 : tie.Need-same-length-11
 same-length-11 c = search needs
 
--- src/run.rt:74:1
 returns-6 : tie.Need-returns-6
 returns-6 c =
     let d = c .before .before .before .before .before .before .before .before .before .before .before .before .before .before .before .before .before .before .before .before .before .before .before .before .before .before .before in

@@ -1,3 +1,5 @@
+-- SPDX-License-Identifier: Apache-2.0
+-- `proving::run::follow_events` meets its contract.
 use Prim.Native.Nat.{_≤_, _<_, _-_}
 use native.Mathlib.Omega.{arith}
 use mathlib.Core.Path.{_≡_, sym, _∙_}
@@ -15,10 +17,6 @@ use Rattle.lamps.specs.Statement.{provenBy}
 use Rattle.proving.proofs.Loop.{proven-more, proven-end}
 use Rattle.proving.proofs.run.follow_events.Statement.{statement}
 use Rattle.proving.proofs.run.follow_events.Tie as tie
-use Rattle.proving.proofs.run.follow_events.Reads as reads
-use Rattle.proving.proofs.run.follow_events.Lts as lts
-use Rattle.device.proofs.State.advance.Reads as advance-reads
-use Rattle.lamps.proofs.Proving.step.Reads as step-reads
 
 abbrev Inv-loop : tie.InvT-loop
 Inv-loop memory₀ events answers₀ at₀ kept₀ i₀ memory answers at kept i =
@@ -30,15 +28,12 @@ Inv-loop memory₀ events answers₀ at₀ kept₀ i₀ memory answers at kept i
 abbrev μ-loop : tie.MeasureT-loop
 μ-loop memory₀ events answers₀ at₀ kept₀ i₀ memory answers at kept i = length events - i
 
--- src/run.rt:45:5
 loop-holds : tie.Need-loop-holds Inv-loop μ-loop
 loop-holds c = search needs
 
--- src/run.rt:46:21
 shared-slice-read-event : tie.Need-shared-slice-read-event Inv-loop μ-loop
 shared-slice-read-event c = search needs
 
--- src/run.rt:47:13
 advance-requires : tie.Need-advance-requires Inv-loop μ-loop
 advance-requires c κs =
     let l = c .before .before .before .loop in
@@ -46,23 +41,18 @@ advance-requires c κs =
     let k = known-at (now (s .args .events)) (s .pre .1 .0) (l .i) (search needs) in
     (ready (l .at) (l .memory) (l .inv .2) (l .inv .1), k)
 
--- src/run.rt:48:9
 slice-write-answers : tie.Need-slice-write-answers Inv-loop μ-loop
 slice-write-answers c = search needs
 
--- src/run.rt:49:13
 step-requires : tie.Need-step-requires Inv-loop μ-loop
 step-requires c κs = search needs
 
--- src/run.rt:53:9
 add-i : tie.Need-add-i Inv-loop μ-loop
 add-i c = let t = c .before .before .before .before .before .before .before .loop-test .taken in omega (arith, c .before .before .before .before .before .before .before .before .before .before .before .before .good)
 
--- src/run.rt:45:5
 loop-less : tie.Need-loop-less Inv-loop μ-loop
 loop-less c = let t = c .before .before .before .before .before .before .before .loop-test .taken in omega arith
 
--- src/run.rt:45:5
 loop-again : tie.Need-loop-again Inv-loop μ-loop
 loop-again c =
     let l = c .before .before .before .before .before .before .before .before .loop in
@@ -84,15 +74,12 @@ loop-again c =
           (proven-more (l .kept) (l .at) (l .memory) es (l .i) t ∙ l .inv .6),
     )
 
--- src/run.rt:30:1
 same-length : tie.Need-same-length Inv-loop μ-loop
 same-length c = search needs
 
--- src/run.rt:30:1
 same-length-2 : tie.Need-same-length-2 Inv-loop μ-loop
 same-length-2 c = search needs
 
--- src/run.rt:30:1
 returns : tie.Need-returns Inv-loop μ-loop
 returns c =
     let l = c .before .loop in

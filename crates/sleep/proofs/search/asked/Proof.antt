@@ -1,7 +1,6 @@
 -- SPDX-License-Identifier: Apache-2.0
 -- `sleep::search::asked` meets its contract: digits that are none, or the number of the two.
 -- Assumes nothing.
-use native.Mathlib.Omega.{arith}
 use Rattle.sleep.proofs.Narrow.{asks-none, asks-one}
 use borrow.Author.Needs.{needs}
 use Rattle.sleep.proofs.search.asked.Statement.{statement}

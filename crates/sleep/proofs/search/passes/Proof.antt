@@ -1,7 +1,6 @@
 -- SPDX-License-Identifier: Apache-2.0
 -- `sleep::search::passes` meets its contract: Match, or the number asked for.
 -- Assumes nothing.
-use mathlib.Core.Path.{_∙_}
 use Rattle.sleep.proofs.Narrow.{passes-is}
 use borrow.Author.Needs.{needs}
 use Rattle.sleep.proofs.search.passes.Statement.{statement}

@@ -2,10 +2,8 @@
 -- `sleep::search::rings_on` meets its contract. The invariant: `day` is in `month`, and no day before it rings. The
 -- measure is the days left; the next month's start is later than the day. Assumes nothing.
 use native.Mathlib.Omega.{arith}
-use borrow.Author.Needs.{needs}
 use Prim.Native.Nat.{ℕ, _+_, _-_, _≤_, _<_}
-use mathlib.Core.Path.{_≡_, sym, subst}
-use Rattle.calendar.specs.Instant.{monthStart}
+use mathlib.Core.Path.{sym, subst}
 use Rattle.days.specs.Places.{InMonth}
 use Rattle.century.proofs.Instants.{month-start-before}
 use Rattle.days.proofs.Months.{month-first, month-not-last, month-start-near}

@@ -5,7 +5,6 @@ use native.Mathlib.Omega.{arith}
 use Rattle.calendar.proofs.Valid.{valid-facts}
 use Rattle.century.proofs.Instants.{instant-below}
 use Rattle.sleep.specs.Search.{DayRings}
-use Rattle.sleep.proofs.Narrow.{stretch}
 use Rattle.sleep.proofs.Rings.{Passing, tells-narrowed, tells-rung}
 use borrow.Author.Needs.{needs}
 use Rattle.sleep.proofs.search.rings_within.Statement.{statement}

@@ -1,7 +1,7 @@
 -- SPDX-License-Identifier: Apache-2.0
 -- `sleep::ticks::companion_caught_up` meets its contract: no tick, ticks that do not count, ticks that count.
 -- Assumes nothing.
-use mathlib.Core.Path.{_≡_, sym, _∙_, ap}
+use mathlib.Core.Path.{sym, _∙_, ap}
 use Prim.Native.Nat.{ℕ}
 use borrow.Author.Needs.{needs}
 use Rattle.sleep.specs.Ticks.{ticksOf}
