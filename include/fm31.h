@@ -22,6 +22,8 @@
  *   fm31256_step
  *   fm31256_view_number
  *   fm31256_view
+ *   fm31_set_check       whether up to four devices can share one line
+ *   fm31_set_run         does a list of events on the devices of such a set
  *
  * A first call; docs/GUIDE.md has a whole program, which counts how often a lamp is switched:
  *
@@ -136,8 +138,11 @@ enum fm31_number {
     FM31_UNKNOWN_EVENT = 3,    /* some event byte is above 9 */
     FM31_SHORT_ANSWERS = 4,    /* answers shorter than events; one event: told is empty */
     FM31_UNKNOWN_SELECTOR = 5, /* viewer: selector neither 0 (memory) nor 1 (registers) */
-    FM31_PAST_THE_END = 6      /* viewer: start + length (exact sum) passes the end of the chosen
+    FM31_PAST_THE_END = 6,     /* viewer: start + length (exact sum) passes the end of the chosen
                                   bytes */
+    FM31_WRONG_COUNT = 9,      /* set: not one to four devices; 7 and 8 are the FM3130's */
+    FM31_EQUAL_SELECTS = 10,   /* set: two devices have the same select bits */
+    FM31_IN_TRANSFER = 11      /* set: a device is not between transfers */
 };
 
 /* What one event tells: its answer byte. */
@@ -329,6 +334,82 @@ static inline const uint8_t *fm31256_view(const uint8_t *image, const uint8_t *m
     }
     return (selector == FM31_VIEW_MEMORY ? memory : image) + start;
 }
+
+/*
+ * A set: one to four devices on one line, which is low if the master or any device pulls it low. A
+ * set is a plan, one byte a device; the images of its devices, one after the other, 64 bytes each;
+ * and a memory for each device, in a buffer of its own. A place past the plan has no image, and its
+ * memory is never looked at: lend an empty buffer there.
+ *
+ * A byte of the plan: bits 1 and 0 are the device's select bits, which bits 2 and 1 of a slave byte
+ * must equal to name it; bit 2 is 1 for a device of 32,768 bytes; the other bits are 0. Select bits
+ * 00 are those of a device that is alone on its line.
+ */
+#define FM31_SET_MOST 4
+#define FM31_PLAN_64(select) ((uint8_t)(select))
+#define FM31_PLAN_256(select) ((uint8_t)(0x04u | (select)))
+
+/*
+ * Events of a set: 0 to 7 reach every device. An edge names its device by its place, 0 to 3: 8 and 9
+ * are CNT1 and CNT2 of the first, 10 and 11 of the second, and so on.
+ */
+#define FM31_SET_EDGE_1(place) ((uint8_t)(8 + 2 * (place)))
+#define FM31_SET_EDGE_2(place) ((uint8_t)(9 + 2 * (place)))
+
+/*
+ * Whether a set can be made.
+ *
+ *   plan     plan_length bytes, one a device; read
+ *   images   images_length bytes, must be 64 a device, each an image of its size; read
+ *   one .. four   the memories of the first to the fourth device, 8,192 or 32,768 bytes as its byte
+ *            of the plan says; read
+ *
+ * Returns; no buffer is written
+ *   0      the set can be made
+ *   1      a memory has the wrong length for the size of its device
+ *   2      a byte of the plan is above 7, images_length is not 64 a device, or no well-formed state
+ *          of that size and those select bits writes an image
+ *   9      the plan has not one to four bytes
+ *   10     two devices have the same select bits
+ *   11     a device is not between transfers
+ *
+ * Proved: CheckSettled, crates/rig31set/specs/Entry.antt. Allocates nothing, keeps nothing,
+ * thread-safe on distinct buffers.
+ */
+uint64_t fm31_set_check(const uint8_t *plan, uint64_t plan_length, const uint8_t *images,
+                        uint64_t images_length, const uint8_t *one, uint64_t one_length,
+                        const uint8_t *two, uint64_t two_length, const uint8_t *three,
+                        uint64_t three_length, const uint8_t *four, uint64_t four_length);
+
+/*
+ * Does a list of events on a set. Each device does what it would do alone on the events that it
+ * hears, except that a slave byte names it by its own select bits; a whole transaction that names
+ * one device leaves the others, once ended, as they were. A list may be cut into pieces at any
+ * place, each piece a call: the outcome is the same, so a set may be inside a transfer here.
+ *
+ *   plan, images, one .. four   as above; images and the memories of the devices are written
+ *   events   events_length bytes, each below 8 + 2 times the number of devices; read
+ *   answers  answers_length bytes, at least as many as events; written
+ *
+ * Returns         images and memories            answers
+ *   0             those that the events lead to  one byte for each event, the line; bytes past
+ *                                                them are unchanged
+ *   1 to 4, 9, 10 unchanged                      unchanged
+ *
+ *   1, 2   as above
+ *   3      some event byte names no device of the set
+ *   4      answers_length is less than events_length
+ *   9, 10  as above, after 4
+ *
+ * Proved: RunSettled, crates/rig31set/specs/Entry.antt; that each device does as alone:
+ * AsAlone, crates/ensemble/specs/Alone.antt. Allocates nothing, keeps nothing, thread-safe on
+ * distinct buffers.
+ */
+uint64_t fm31_set_run(const uint8_t *plan, uint64_t plan_length, uint8_t *images,
+                      uint64_t images_length, uint8_t *one, uint64_t one_length, uint8_t *two,
+                      uint64_t two_length, uint8_t *three, uint64_t three_length, uint8_t *four,
+                      uint64_t four_length, const uint8_t *events, uint64_t events_length,
+                      uint8_t *answers, uint64_t answers_length);
 
 #ifdef __cplusplus
 }

@@ -7,6 +7,7 @@
 //! * [`lists`]: a list of events on both, whole and in pieces.
 //! * [`family`]: the larger family on both, at each size.
 //! * [`lamps`]: the lamps on both, and lists that try them.
+//! * [`set`]: one to four parts of the larger family on one line, on both.
 //! * [`standin`]: what the proved stand-in is run on, and what it has to print.
 //! * [`captures`]: files to judge, the second program's verdict on each, and what the proved judge is run on.
 //! * [`panel`]: what the proved program of the lamps is run on, and what it has to print.
@@ -22,4 +23,5 @@ pub mod image;
 pub mod lamps;
 pub mod lists;
 pub mod panel;
+pub mod set;
 pub mod standin;

@@ -51,9 +51,6 @@ void check_master(void);
  * Returns the number of captures judged.
  */
 unsigned long check_captures(void);
-/* The master's functions: exact events, bytes that come back, what answers tell, refusals. */
-void check_master(void);
-
 /*
  * firmware/pins.c on two wires, with a master that knows only levels and ticks at many places. Returns the
  * number of clocks.
@@ -74,6 +71,9 @@ unsigned long check_handheld(void);
  * comparisons.
  */
 unsigned long check_family(void);
+
+/* fm31_set_check and fm31_set_run: one to four devices on one line. */
+void check_sets(void);
 
 /*
  * Holds the trim functions to a plain search: every error in range with every setting, then what is

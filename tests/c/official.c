@@ -7,7 +7,7 @@
  * fresh image; the viewer's number and the inline viewer; one event by itself (step.c); the next line
  * (line.c); images put right (mend.c); many ticks in one call (sleep.c); the master's side (master.c);
  * captures with and without faults (capture.c); the lamps (lamps.c); firmware/pins.c (pins.c); the
- * larger family (family.c); then some 320,000 events against the second program (frames.c), and every
+ * larger family (family.c), sets of it (set.c); then some 320,000 events against the second program (frames.c), and every
  * trim setting of every error against a plain search (trim.c). The first difference ends it with status 1.
  */
 #include <stdarg.h>
@@ -349,6 +349,7 @@ int main(int count, char **words) {
     unsigned long calls = check_handheld();
     unsigned long clocks = check_pins();
     unsigned long family = check_family();
+    check_sets();
     printf("ctest: %s: K12, %u cases of refusals and views, the master's side, %lu events as the second program, "
            "the line asked at %lu, %lu images put right, %lu calls of two masters by plain rules, %lu clocks on two "
            "wires, %lu captures, %lu trim settings as a plain search, the larger family by its page, %lu "

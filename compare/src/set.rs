@@ -1,0 +1,184 @@
+// SPDX-License-Identifier: Apache-2.0
+//! One to four parts of the larger family on one line, on both programs.
+
+use crate::family::image_of;
+use crate::image::IMAGE_BYTES;
+use second::family::{Member, Set, Size, State};
+use second::generate::SetList;
+
+mod foreign {
+    unsafe extern "C" {
+        pub fn fm31_set_check(
+            plan: *const u8,
+            plan_length: u64,
+            images: *const u8,
+            images_length: u64,
+            one: *const u8,
+            one_length: u64,
+            two: *const u8,
+            two_length: u64,
+            three: *const u8,
+            three_length: u64,
+            four: *const u8,
+            four_length: u64,
+        ) -> u64;
+        pub fn fm31_set_run(
+            plan: *const u8,
+            plan_length: u64,
+            images: *mut u8,
+            images_length: u64,
+            one: *mut u8,
+            one_length: u64,
+            two: *mut u8,
+            two_length: u64,
+            three: *mut u8,
+            three_length: u64,
+            four: *mut u8,
+            four_length: u64,
+            events: *const u8,
+            events_length: u64,
+            answers: *mut u8,
+            answers_length: u64,
+        ) -> u64;
+    }
+}
+
+/// The buffers of a set, as C has them: the plan, the images one after the other, and four memories.
+#[derive(Clone, Debug, PartialEq, Eq)]
+pub struct Buffers {
+    pub plan: Vec<u8>,
+    pub images: Vec<u8>,
+    pub memories: [Vec<u8>; 4],
+}
+
+impl Buffers {
+    /// The buffers of some members; a place that is not on the line has an empty memory.
+    pub fn of(members: &[Member]) -> Buffers {
+        let mut memories: [Vec<u8>; 4] = Default::default();
+        for (memory, member) in memories.iter_mut().zip(members) {
+            memory.clone_from(&member.memory);
+        }
+        Buffers {
+            plan: members.iter().map(plan_byte).collect(),
+            images: images_of(members.iter().map(|member| member.state)),
+            memories,
+        }
+    }
+
+    /// The buffers that a set of the second program has become.
+    fn after(plan: &[u8], set: &Set) -> Buffers {
+        let mut memories: [Vec<u8>; 4] = Default::default();
+        for (memory, device) in memories.iter_mut().zip(&set.devices) {
+            memory.clone_from(&device.memory);
+        }
+        Buffers {
+            plan: plan.to_vec(),
+            images: images_of(set.states().into_iter()),
+            memories,
+        }
+    }
+}
+
+/// A device's byte of the plan: bits 1 and 0 its selects, bit 2 its size.
+fn plan_byte(member: &Member) -> u8 {
+    let size = match member.size {
+        Size::Kilobits64 => 0,
+        Size::Kilobits256 => 4,
+    };
+    size + member.selects
+}
+
+fn images_of(states: impl Iterator<Item = State>) -> Vec<u8> {
+    states.flat_map(|state| image_of(&state)).collect()
+}
+
+/// Whether a set can be made; the number.
+pub fn check(buffers: &Buffers) -> u64 {
+    let [one, two, three, four] = &buffers.memories;
+    // SAFETY: six slices of Rust's are non-null and only read, and their lengths are their own.
+    unsafe {
+        foreign::fm31_set_check(
+            buffers.plan.as_ptr(),
+            buffers.plan.len() as u64,
+            buffers.images.as_ptr(),
+            buffers.images.len() as u64,
+            one.as_ptr(),
+            one.len() as u64,
+            two.as_ptr(),
+            two.len() as u64,
+            three.as_ptr(),
+            three.len() as u64,
+            four.as_ptr(),
+            four.len() as u64,
+        )
+    }
+}
+
+/// A list of events on a set; the number.
+pub fn run(buffers: &mut Buffers, events: &[u8], answers: &mut [u8]) -> u64 {
+    let [one, two, three, four] = &mut buffers.memories;
+    // SAFETY: eight slices of Rust's are non-null and do not overlap, and their lengths are their own.
+    unsafe {
+        foreign::fm31_set_run(
+            buffers.plan.as_ptr(),
+            buffers.plan.len() as u64,
+            buffers.images.as_mut_ptr(),
+            buffers.images.len() as u64,
+            one.as_mut_ptr(),
+            one.len() as u64,
+            two.as_mut_ptr(),
+            two.len() as u64,
+            three.as_mut_ptr(),
+            three.len() as u64,
+            four.as_mut_ptr(),
+            four.len() as u64,
+            events.as_ptr(),
+            events.len() as u64,
+            answers.as_mut_ptr(),
+            answers.len() as u64,
+        )
+    }
+}
+
+/// Our number for one of the second program's: 02 gives none for the two refusals of a set, and each program chose its own.
+pub fn number_of(second: u8) -> u64 {
+    match second {
+        9 => 10,
+        10 => 11,
+        other => u64::from(other),
+    }
+}
+
+/// Holds the proved program to the second program on one list, whole and in pieces of 1, 7 and 64 events.
+pub fn hold(list: &SetList) {
+    let begin = Buffers::of(&list.members());
+    assert_eq!(check(&begin), 0, "{}/{}", list.family, list.name);
+    let mut set = list.set();
+    let expected_answers = set
+        .run(&list.events, list.events.len())
+        .expect("a list of the generators is accepted");
+    let expected = Buffers::after(&begin.plan, &set);
+    for most in [usize::MAX, 1, 7, 64] {
+        let mut found = begin.clone();
+        let mut answers = vec![0xEE; list.events.len()];
+        for (events, answers) in list.events.chunks(most).zip(answers.chunks_mut(most)) {
+            assert_eq!(run(&mut found, events, answers), 0);
+        }
+        assert!(
+            answers == expected_answers && found == expected,
+            "{}/{}, at most {most} events a call: answers differ at {:?}, images at {:?} of {}",
+            list.family,
+            list.name,
+            difference(&expected_answers, &answers),
+            difference(&expected.images, &found.images),
+            IMAGE_BYTES * begin.plan.len(),
+        );
+    }
+}
+
+fn difference(expected: &[u8], found: &[u8]) -> Option<usize> {
+    expected
+        .iter()
+        .zip(found)
+        .position(|(one, other)| one != other)
+}
