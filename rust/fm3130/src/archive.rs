@@ -229,6 +229,40 @@ extern "C" {
         start: u64,
         length: u64,
     ) -> u64;
+
+    fn fm31_set_check(
+        plan: *const u8,
+        plan_length: u64,
+        images: *const u8,
+        images_length: u64,
+        one: *const u8,
+        one_length: u64,
+        two: *const u8,
+        two_length: u64,
+        three: *const u8,
+        three_length: u64,
+        four: *const u8,
+        four_length: u64,
+    ) -> u64;
+
+    fn fm31_set_run(
+        plan: *const u8,
+        plan_length: u64,
+        images: *mut u8,
+        images_length: u64,
+        one: *mut u8,
+        one_length: u64,
+        two: *mut u8,
+        two_length: u64,
+        three: *mut u8,
+        three_length: u64,
+        four: *mut u8,
+        four_length: u64,
+        events: *const u8,
+        events_length: u64,
+        answers: *mut u8,
+        answers_length: u64,
+    ) -> u64;
 }
 
 /// Runs a list; returns the number of events done.
@@ -587,4 +621,64 @@ pub fn family_view_number(
         )
     };
     family::Refusal::outcome_of(number)
+}
+
+/// Asks whether a set can be made.
+pub fn set_check(
+    plan: &[u8],
+    images: &[u8],
+    memories: [&[u8]; 4],
+) -> Result<(), family::SetRefusal> {
+    let [one, two, three, four] = memories;
+    // SAFETY: each pointer and length is a live slice's own, and the archive only reads.
+    let number = unsafe {
+        fm31_set_check(
+            plan.as_ptr(),
+            plan.len() as u64,
+            images.as_ptr(),
+            images.len() as u64,
+            one.as_ptr(),
+            one.len() as u64,
+            two.as_ptr(),
+            two.len() as u64,
+            three.as_ptr(),
+            three.len() as u64,
+            four.as_ptr(),
+            four.len() as u64,
+        )
+    };
+    family::SetRefusal::outcome_of(number)
+}
+
+/// Runs a list on a set.
+pub fn set_run(
+    plan: &[u8],
+    images: &mut [u8],
+    memories: [&mut [u8]; 4],
+    events: &[u8],
+    answers: &mut [u8],
+) -> Result<(), family::SetRefusal> {
+    let [one, two, three, four] = memories;
+    // SAFETY: as in `run`: the pointers and lengths of live slices, exclusive where they are written.
+    let number = unsafe {
+        fm31_set_run(
+            plan.as_ptr(),
+            plan.len() as u64,
+            images.as_mut_ptr(),
+            images.len() as u64,
+            one.as_mut_ptr(),
+            one.len() as u64,
+            two.as_mut_ptr(),
+            two.len() as u64,
+            three.as_mut_ptr(),
+            three.len() as u64,
+            four.as_mut_ptr(),
+            four.len() as u64,
+            events.as_ptr(),
+            events.len() as u64,
+            answers.as_mut_ptr(),
+            answers.len() as u64,
+        )
+    };
+    family::SetRefusal::outcome_of(number)
 }

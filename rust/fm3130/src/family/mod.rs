@@ -8,7 +8,9 @@
 //! * [`State`] and [`registers`] say in words what a state holds; [`Counts`] are its two counters.
 //! * [`run`], [`step`], [`fresh`] and [`view`] are the archive's entries on slices of any length, for
 //!   a [`Size`].
-//! * [`Refusal`] is why an entry did nothing, with its number.
+//! * [`Set`] is one to four devices on one line, each a [`Member`] with its [`Select`] bits; [`edge_1`]
+//!   and [`edge_2`] are the edges of a device of a set.
+//! * [`Refusal`] is why an entry did nothing, with its number; [`SetRefusal`] is that of a set.
 //!
 //! The rules of the part are in docs/FAMILY.md, and each is proved of the archive.
 //!
@@ -32,12 +34,17 @@ pub mod event;
 mod part;
 mod refusal;
 pub mod registers;
+mod select;
+mod set;
 mod size;
 mod state;
+mod transaction;
 
 pub use entries::{fresh, run, step, view};
 pub use part::{Fm31256, Fm3164, Part};
-pub use refusal::Refusal;
+pub use refusal::{Refusal, SetRefusal};
+pub use select::Select;
+pub use set::{edge_1, edge_2, Member, Set, MOST_MEMBERS};
 pub use size::{ChosenSize, Kb256, Kb64, Size};
 pub use state::{Counts, State};
 

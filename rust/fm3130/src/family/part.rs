@@ -7,17 +7,10 @@ use std::marker::PhantomData;
 use super::refusal::Refusal;
 use super::size::{ChosenSize, Kb256, Kb64, Size};
 use super::state::{Counts, State};
-use super::{entries, event, REGISTER_COUNT};
+use super::transaction::{self, COMPANION, MEMORY};
+use super::{entries, REGISTER_COUNT};
 use crate::state::{Phase, Power};
 use crate::IMAGE_BYTES;
-
-/// The slave bytes: the last bit asks for reading.
-const MEMORY: u8 = 0xA0;
-const COMPANION: u8 = 0xD0;
-const READ: u8 = 0x01;
-
-/// The clocks of a byte.
-const CLOCKS_OF_A_BYTE: usize = 9;
 
 /// The 64Kb part: 8,192 bytes of memory.
 pub type Fm3164 = Part<Kb64>;
@@ -168,7 +161,9 @@ impl<Chosen: ChosenSize> Part<Chosen> {
     /// assert_eq!(device.write_registers(0x08, &[1]), [false]);
     /// ```
     pub fn write_registers(&mut self, address: u8, bytes: &[u8]) -> Vec<bool> {
-        self.write(&[COMPANION, address], bytes)
+        transaction::write(&[COMPANION, address], bytes, |events| {
+            self.answers_to(events)
+        })
     }
 
     /// Reads so many registers over the bus, from an address on and over 18h to 09h: one whole
@@ -182,7 +177,9 @@ impl<Chosen: ChosenSize> Part<Chosen> {
     /// assert_eq!(device.read_registers(0x19, 2), []);
     /// ```
     pub fn read_registers(&mut self, address: u8, count: usize) -> Vec<u8> {
-        self.read(&[COMPANION, address], count)
+        transaction::read(&[COMPANION, address], count, |events| {
+            self.answers_to(events)
+        })
     }
 
     /// Writes bytes to the memory over the bus, from an address on and over its end to 0000h: one whole
@@ -198,7 +195,9 @@ impl<Chosen: ChosenSize> Part<Chosen> {
     /// ```
     pub fn write_memory(&mut self, address: u16, bytes: &[u8]) -> Vec<bool> {
         let [high, low] = address.to_be_bytes();
-        self.write(&[MEMORY, high, low], bytes)
+        transaction::write(&[MEMORY, high, low], bytes, |events| {
+            self.answers_to(events)
+        })
     }
 
     /// Reads so many bytes of the memory over the bus, from an address on: one whole transaction.
@@ -213,47 +212,9 @@ impl<Chosen: ChosenSize> Part<Chosen> {
     /// ```
     pub fn read_memory(&mut self, address: u16, count: usize) -> Vec<u8> {
         let [high, low] = address.to_be_bytes();
-        self.read(&[MEMORY, high, low], count)
-    }
-
-    /// A Start, the bytes that name a place, data bytes and a Stop.
-    fn write(&mut self, place: &[u8], bytes: &[u8]) -> Vec<bool> {
-        let mut events = vec![event::START];
-        for byte in place.iter().chain(bytes) {
-            events.extend(event::written_byte(*byte));
-        }
-        events.push(event::STOP);
-        let answers = self.answers_to(&events);
-        let flags = acknowledges(&answers[1..]);
-        let (named, told) = flags.split_at(place.len());
-        match named.iter().all(|flag| *flag) {
-            true => told.to_vec(),
-            false => vec![false; bytes.len()],
-        }
-    }
-
-    /// A Start, the bytes that name a place, a repeated Start, the slave byte for reading, data bytes,
-    /// the last of them not acknowledged, and a Stop.
-    fn read(&mut self, place: &[u8], count: usize) -> Vec<u8> {
-        let mut events = vec![event::START];
-        for byte in place {
-            events.extend(event::written_byte(*byte));
-        }
-        let again = events.len();
-        events.push(event::START);
-        events.extend(event::written_byte(place[0] | READ));
-        let data = events.len();
-        for left in (0..count).rev() {
-            events.extend(event::read_byte(left > 0));
-        }
-        events.push(event::STOP);
-        let answers = self.answers_to(&events);
-        let mut named = acknowledges(&answers[1..again]);
-        named.extend(acknowledges(&answers[again + 1..data]));
-        match named.iter().all(|flag| *flag) {
-            true => bytes_of(&answers[data..]),
-            false => Vec::new(),
-        }
+        transaction::read(&[MEMORY, high, low], count, |events| {
+            self.answers_to(events)
+        })
     }
 
     /// The answers to a master's events, which are known, so that the list run takes them.
@@ -395,18 +356,4 @@ impl<Chosen: ChosenSize> fmt::Debug for Part<Chosen> {
             .field("state", &self.state())
             .finish_non_exhaustive()
     }
-}
-
-/// Whether each whole byte in some answers was acknowledged: the line is low at its ninth clock.
-fn acknowledges(answers: &[u8]) -> Vec<bool> {
-    let bytes = answers.chunks_exact(CLOCKS_OF_A_BYTE);
-    bytes.map(|clocks| clocks[8] & 1 == 0).collect()
-}
-
-/// The value of each whole byte in some answers, high bit first.
-fn bytes_of(answers: &[u8]) -> Vec<u8> {
-    let bytes = answers.chunks_exact(CLOCKS_OF_A_BYTE);
-    bytes
-        .map(|clocks| clocks[..8].iter().fold(0, |byte, bit| byte << 1 | bit & 1))
-        .collect()
 }

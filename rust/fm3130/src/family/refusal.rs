@@ -92,3 +92,88 @@ impl fmt::Display for Refusal {
 }
 
 impl Error for Refusal {}
+
+/// Why a set was not made, or did no event. Under every refusal nothing was written.
+///
+/// A set is tested for 1, 2, 9, 10 and 11 when it is made; a list run for 3 and 4, since what the
+/// others ask stays true of a set.
+///
+/// ```
+/// use fm3130::family::{Set, SetRefusal};
+///
+/// let refusal = Set::new([]).unwrap_err();
+/// assert_eq!((refusal, refusal.number()), (SetRefusal::WrongCount, 9));
+/// assert_eq!(refusal.to_string(), "a set has one to four devices (number 9)");
+/// ```
+#[derive(Clone, Copy, Debug, PartialEq, Eq, Hash)]
+pub enum SetRefusal {
+    /// 1: a memory has the wrong length for the size of its device.
+    MemoryLength,
+    /// 2: an image that no well-formed state of that size and those select bits writes.
+    Image,
+    /// 3: some event byte names no device of the set.
+    UnknownEvent,
+    /// 4: answers shorter than events.
+    ShortAnswers,
+    /// 9: not one to four devices.
+    WrongCount,
+    /// 10: two devices have the same select bits.
+    EqualSelects,
+    /// 11: a device is not between transfers.
+    InTransfer,
+}
+
+impl SetRefusal {
+    /// The number, 1 to 4 or 9 to 11.
+    pub fn number(self) -> u64 {
+        match self {
+            SetRefusal::MemoryLength => 1,
+            SetRefusal::Image => 2,
+            SetRefusal::UnknownEvent => 3,
+            SetRefusal::ShortAnswers => 4,
+            SetRefusal::WrongCount => 9,
+            SetRefusal::EqualSelects => 10,
+            SetRefusal::InTransfer => 11,
+        }
+    }
+
+    /// When it is given.
+    pub fn words(self) -> &'static str {
+        match self {
+            SetRefusal::MemoryLength => "a memory has the wrong length for the size of its device",
+            SetRefusal::Image => {
+                "no well-formed state of its device's size and select bits writes an image"
+            }
+            SetRefusal::UnknownEvent => "some event byte names no device of the set",
+            SetRefusal::ShortAnswers => "answers shorter than events",
+            SetRefusal::WrongCount => "a set has one to four devices",
+            SetRefusal::EqualSelects => "two devices have the same select bits",
+            SetRefusal::InTransfer => "a device is not between transfers",
+        }
+    }
+
+    /// The outcome that a number of the archive stands for.
+    ///
+    /// The archive is proved to give no other number; should one come all the same, it counts as the
+    /// last refusal rather than as a reason to panic.
+    pub(crate) fn outcome_of(number: u64) -> Result<(), SetRefusal> {
+        Err(match number {
+            0 => return Ok(()),
+            1 => SetRefusal::MemoryLength,
+            2 => SetRefusal::Image,
+            3 => SetRefusal::UnknownEvent,
+            4 => SetRefusal::ShortAnswers,
+            9 => SetRefusal::WrongCount,
+            10 => SetRefusal::EqualSelects,
+            _ => SetRefusal::InTransfer,
+        })
+    }
+}
+
+impl fmt::Display for SetRefusal {
+    fn fmt(&self, formatter: &mut fmt::Formatter<'_>) -> fmt::Result {
+        write!(formatter, "{} (number {})", self.words(), self.number())
+    }
+}
+
+impl Error for SetRefusal {}
