@@ -5,6 +5,8 @@ use std::collections::BTreeMap;
 use std::ffi::{OsStr, OsString};
 use std::path::PathBuf;
 
+use fm3130::family::{Select, Size};
+
 use crate::chip::Part;
 use crate::failure::{Failure, Outcome};
 
@@ -16,10 +18,15 @@ pub struct Options {
     pub alone: &'static [&'static str],
 }
 
+/// The option that may be given more than once: several parts are a set.
+const PART: &str = "--part";
+
 /// A command line in order.
 #[derive(Debug)]
 pub struct Arguments {
     values: BTreeMap<&'static str, OsString>,
+    /// The values of `--part`.
+    parts: Vec<OsString>,
     flags: Vec<&'static str>,
     /// The words that are no options.
     pub plain: Vec<OsString>,
@@ -33,6 +40,7 @@ impl Arguments {
     ) -> Outcome<Arguments> {
         let mut sorted = Arguments {
             values: BTreeMap::new(),
+            parts: Vec::new(),
             flags: Vec::new(),
             plain: Vec::new(),
         };
@@ -74,6 +82,10 @@ impl Arguments {
             Some(value) if !value.is_empty() => value,
             _ => return Err(wrong(format!("{option} needs a value"))),
         };
+        if option == PART {
+            self.parts.push(value);
+            return Ok(());
+        }
         match self.values.insert(option, value) {
             None => Ok(()),
             Some(_) => Err(wrong(format!("{option} is given twice"))),
@@ -92,9 +104,25 @@ impl Arguments {
 
     /// The part that `--part` chooses; without it the FM3130.
     pub fn part(&self) -> Outcome<Part> {
-        match self.values.get("--part") {
-            None => Ok(Part::Fm3130),
-            Some(word) => part_of(word),
+        match self.parts.as_slice() {
+            [] => Ok(Part::Fm3130),
+            [word] => part_of(word),
+            _ => Err(wrong(
+                "--part is given twice; several parts are a set, which run alone knows",
+            )),
+        }
+    }
+
+    /// The sizes and select bits of the set that `--part` chooses; none if it chooses one part without
+    /// select bits, or none.
+    pub fn set(&self) -> Outcome<Option<Vec<(Size, Select)>>> {
+        match self.parts.as_slice() {
+            [] => Ok(None),
+            [word] if !has_select_bits(word) => Ok(None),
+            words => {
+                let members: Outcome<Vec<_>> = words.iter().map(|word| member_of(word)).collect();
+                members.map(Some)
+            }
         }
     }
 
@@ -112,12 +140,43 @@ impl Arguments {
 
 /// The part that a word chooses.
 pub fn part_of(word: &OsStr) -> Outcome<Part> {
+    let is_of_a_set = has_select_bits(word);
     let word = word.to_string_lossy();
+    if is_of_a_set {
+        return Err(wrong(format!(
+            "{word} has select bits: it is for a set, which run alone knows"
+        )));
+    }
     Part::of_word(&word).ok_or_else(|| {
         wrong(format!(
             "{word} is no part; there are fm3130, fm3164 and fm31256"
         ))
     })
+}
+
+/// Whether a word chooses a part with its select bits.
+fn has_select_bits(word: &OsStr) -> bool {
+    word.to_string_lossy().contains('@')
+}
+
+/// The size and the select bits of a device of a set.
+fn member_of(word: &OsStr) -> Outcome<(Size, Select)> {
+    let word = word.to_string_lossy();
+    let Some((part, select)) = word.split_once('@') else {
+        return Err(wrong(format!(
+            "{word} has no select bits; in a set every part has its own, such as {word}@0"
+        )));
+    };
+    let Part::Family(size) = part_of(OsStr::new(part))? else {
+        return Err(wrong(format!(
+            "{word}: the FM3130 has no select bits; a set is of fm3164 and fm31256"
+        )));
+    };
+    let mut known = Select::ALL.into_iter();
+    match known.find(|one| one.to_string() == select) {
+        Some(select) => Ok((size, select)),
+        None => Err(wrong(format!("{word}: select bits are 0, 1, 2 or 3"))),
+    }
 }
 
 /// A wrong command line.

@@ -7,7 +7,7 @@
 use std::fmt;
 
 use fm3130::event::{CLOCK_HIGH, CLOCK_LOW};
-use fm3130::family::{self, Counts, Fm31256, Fm3164, Size};
+use fm3130::family::{self, Counts, Fm31256, Fm3164, Member, Select, Size};
 use fm3130::{Calendar, Device, NextLine, Phase, Pin, PinFunction, Power, Rolled};
 
 /// A part that can be chosen.
@@ -290,6 +290,8 @@ impl From<Device> for Chip {
 pub struct State {
     /// The part.
     pub part: Part,
+    /// Its select bits, if it is a device of a set.
+    pub select: Option<Select>,
     /// What stands behind slave bytes D0h and D1h.
     pub companion: Companion,
     /// The companion's address.
@@ -329,6 +331,7 @@ impl State {
     fn of_family(size: Size, state: family::State) -> State {
         State {
             part: Part::Family(size),
+            select: None,
             companion: Companion::Counters(state),
             companion_address: state.companion_address,
             memory_address: state.memory_address,
@@ -336,6 +339,14 @@ impl State {
             phase: state.phase,
             clocks: state.clocks,
             byte: state.byte,
+        }
+    }
+
+    /// The state of a device of a set.
+    pub fn of_member(member: &Member) -> State {
+        State {
+            select: Some(member.select()),
+            ..State::of_family(member.size(), member.state())
         }
     }
 
@@ -386,6 +397,7 @@ impl From<fm3130::State> for State {
     fn from(state: fm3130::State) -> State {
         State {
             part: Part::Fm3130,
+            select: None,
             companion: Companion::Clock {
                 registers: state.registers,
                 written: state.calendar_registers(),

@@ -8,14 +8,18 @@ use crate::chip::{Chip, Companion, Part, State};
 
 /// All that a reader may want to know of a device, a line each.
 pub fn of_device(device: &Chip) -> Vec<String> {
-    let state = device.state();
+    of_state(&device.state())
+}
+
+/// The same of its state.
+pub fn of_state(state: &State) -> Vec<String> {
     let (first, _) = state.part.registers();
     let mut lines = vec!["Registers".to_string()];
     lines.extend(of_registers(state.part, first, state.registers()));
     match &state.companion {
         Companion::Clock { core, .. } => {
-            lines.push(format!("Calendar   {}", calendar(&state, core)));
-            lines.push(format!("ACS pin    {}", pin(&state)));
+            lines.push(format!("Calendar   {}", calendar(state, core)));
+            lines.push(format!("ACS pin    {}", pin(state)));
         }
         Companion::Counters(counters) => lines.extend(of_counters(counters)),
     }
@@ -24,7 +28,7 @@ pub fn of_device(device: &Chip) -> Vec<String> {
         state.memory_address, state.companion_address
     ));
     lines.push(format!("Power      {}", state.power));
-    lines.push(format!("Bus        {}", bus(&state)));
+    lines.push(format!("Bus        {}", bus(state)));
     lines
 }
 

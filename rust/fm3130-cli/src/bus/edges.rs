@@ -35,9 +35,13 @@ impl EdgeReport {
     /// The edges as a script writes them.
     pub fn notation(&self) -> String {
         let word = word_of(self.event);
+        let named = match self.before.select {
+            Some(select) => format!("{word}@{select}"),
+            None => word.to_string(),
+        };
         match self.count {
-            1 => word.to_string(),
-            count => format!("{word}*{count}"),
+            1 => named,
+            count => format!("{named}*{count}"),
         }
     }
 

@@ -112,8 +112,12 @@ impl<'run> Grouping<'run> {
             Some(eighth) => meaning::of_whole_byte(&first, &eighth, byte.value()),
             None => meaning::of_part_byte(&first, byte.clocks.len()),
         };
+        let meaning = match meaning::hearer(&first, group.eighth.as_ref()) {
+            Some(select) => format!("@{select} {words}"),
+            None => words,
+        };
         self.tell(&Happening::Byte(BusByte {
-            meaning: words,
+            meaning,
             label,
             ..byte
         }))
@@ -162,11 +166,10 @@ impl<'run> Grouping<'run> {
     /// An edge on a counter's pin; those on one pin are told together.
     fn edge(&mut self, moment: &Moment) -> Outcome {
         self.tell_stray_clocks()?;
-        if self
-            .edges
-            .as_ref()
-            .is_some_and(|edges| edges.event != moment.event)
-        {
+        let is_another = |edges: &EdgeReport| {
+            edges.event != moment.event || edges.before.select != moment.before.select
+        };
+        if self.edges.as_ref().is_some_and(is_another) {
             self.tell_edges()?;
         }
         let inside = self.clocks_under_way();

@@ -1,7 +1,7 @@
 // SPDX-License-Identifier: Apache-2.0
 //! What a byte on the bus means to the device that hears it.
 
-use fm3130::family::registers;
+use fm3130::family::{registers, Select};
 use fm3130::{Phase, Power, Side};
 
 use crate::chip::{Companion, Part, State};
@@ -29,6 +29,7 @@ impl Meaning {
 pub fn of_whole_byte(first: &State, eighth: &State, byte: u8) -> Meaning {
     match first.phase {
         Phase::Idle => unheard(first),
+        Phase::SlaveByte if first.select.is_some() => slave_byte_of_set(eighth, byte),
         Phase::SlaveByte => slave_byte(byte),
         Phase::FirstAddressByte => Meaning::new("memory address, first byte", "address"),
         Phase::SecondAddressByte => {
@@ -90,6 +91,40 @@ pub fn named_by(slave_byte: u8) -> &'static str {
 fn slave_byte(byte: u8) -> Meaning {
     let named = named_by(byte);
     Meaning::new(format!("slave byte: {named}"), named)
+}
+
+/// The select bits of a slave byte.
+const SELECT_BITS: u8 = 0x06;
+
+/// What a slave byte names on the line of a set. Select bits that no device has have ended the transfer
+/// by the eighth clock.
+fn slave_byte_of_set(eighth: &State, byte: u8) -> Meaning {
+    let Meaning { words, label } = slave_byte(byte & !SELECT_BITS);
+    let select = (byte & SELECT_BITS) >> 1;
+    let is_named = Select::ALL
+        .iter()
+        .any(|one| [one.memory_byte(), one.companion_byte()].contains(&(byte & !1)));
+    match eighth.phase {
+        _ if !is_named => Meaning { words, label },
+        Phase::Idle => Meaning::new(
+            format!("{words}, select bits {select}: nobody has them"),
+            label,
+        ),
+        _ => Meaning { words, label },
+    }
+}
+
+/// The select bits of the device of a set that hears a byte, if one does. All hear a slave byte; it is
+/// for the one that stays in the transfer.
+pub fn hearer(first: &State, eighth: Option<&State>) -> Option<Select> {
+    let hearing = match first.phase {
+        Phase::SlaveByte => eighth?,
+        _ => first,
+    };
+    match hearing.phase {
+        Phase::Idle => None,
+        _ => hearing.select,
+    }
 }
 
 fn companion_address(part: Part, byte: u8) -> Meaning {

@@ -11,6 +11,7 @@ mod meaning;
 mod moment;
 mod play;
 mod resume;
+mod set;
 mod sleep;
 mod ticks;
 

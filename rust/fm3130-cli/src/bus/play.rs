@@ -1,6 +1,8 @@
 // SPDX-License-Identifier: Apache-2.0
 //! Lets a device do the events of a source, chunk by chunk.
 
+use std::fmt;
+
 use fm3130::{event, Answer, Lamps, Pin, MOST_TICKS};
 
 use super::moment::{Moment, TickRun};
@@ -21,6 +23,25 @@ pub trait Observer {
 
     /// No event follows.
     fn finish(&mut self) -> Outcome;
+}
+
+/// Who does the events of a run: a device, or a set.
+pub trait Player {
+    /// Does the events of one chunk; the answers are left in the buffer.
+    fn play_chunk(&mut self, chunk: &[u8], answers: &mut [u8], outputs: &mut Outputs) -> Outcome;
+
+    /// Does a run of ticks at once: nobody asked for their answers.
+    fn sleep_through(&mut self, ticks: u64, outputs: &mut Outputs) -> Outcome;
+}
+
+impl Player for Chip {
+    fn play_chunk(&mut self, chunk: &[u8], answers: &mut [u8], outputs: &mut Outputs) -> Outcome {
+        play_chunk(self, chunk, answers, outputs)
+    }
+
+    fn sleep_through(&mut self, ticks: u64, outputs: &mut Outputs) -> Outcome {
+        sleep_through(self, ticks, outputs)
+    }
 }
 
 /// Where a run goes to.
@@ -54,7 +75,7 @@ pub struct Recorded {
 }
 
 /// Does all events of a source.
-pub fn play(chip: &mut Chip, source: &mut dyn Source, outputs: &mut Outputs) -> Outcome {
+pub fn play(player: &mut dyn Player, source: &mut dyn Source, outputs: &mut Outputs) -> Outcome {
     let mut progress = Progress::of(source.total());
     let mut chunk = Vec::with_capacity(CHUNK);
     let mut answers = vec![0; CHUNK];
@@ -65,7 +86,7 @@ pub fn play(chip: &mut Chip, source: &mut dyn Source, outputs: &mut Outputs) -> 
             source.take_ticks()
         };
         if ticks > 0 {
-            sleep_through(chip, ticks, outputs)?;
+            player.sleep_through(ticks, outputs)?;
             progress.advance(ticks);
             continue;
         }
@@ -76,7 +97,7 @@ pub fn play(chip: &mut Chip, source: &mut dyn Source, outputs: &mut Outputs) -> 
         // A run of ticks prints its one line after the last of them.
         let has_words = chunk.iter().any(|event| *event != event::TICK);
         progress.give_way(outputs.prints && has_words);
-        play_chunk(chip, &chunk, &mut answers, outputs)?;
+        player.play_chunk(&chunk, &mut answers, outputs)?;
         if let Some(file) = &mut outputs.answers {
             file.write(&answers[..chunk.len()])?;
         }
@@ -140,7 +161,7 @@ fn play_ticks(chip: &mut Chip, ticks: &[u8], answers: &mut [u8], outputs: &mut O
     // The record follows on a copy: the device itself is asked which field of the calendar changed.
     if let (Some(lamps), Chip::Fm3130(device)) = (&mut outputs.lamps, &*chip) {
         let followed = lamps.run(&mut device.clone(), ticks);
-        followed.map_err(|refusal| refused(refusal.into()))?;
+        followed.map_err(refused)?;
     }
     let rolled = chip.run_ticks(ticks, answers).map_err(refused)?;
     let run = TickRun {
@@ -184,6 +205,6 @@ fn pin_changes(mut pin: Pin, answers: &[u8]) -> Vec<(u64, Pin)> {
 }
 
 /// The device refuses events only if a file changed after it was tested.
-fn refused(refusal: Refused) -> Failure {
+pub(super) fn refused(refusal: impl fmt::Display) -> Failure {
     Failure::Refused(format!("the device refuses the events: {refusal}"))
 }

@@ -8,6 +8,7 @@ mod judge;
 mod lamps;
 mod mend;
 mod run;
+mod run_set;
 mod share;
 mod trim;
 mod view;

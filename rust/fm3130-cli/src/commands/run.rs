@@ -7,6 +7,7 @@ use std::path::{Path, PathBuf};
 use fm3130::capture::{self, Capture};
 use fm3130::Phase;
 
+use super::run_set;
 use crate::arguments::{wrong, Arguments, Options};
 use crate::bus::{self, Grouping, Listener, Observer, Outputs, Recorded};
 use crate::chip::{Chip, Part};
@@ -50,6 +51,9 @@ pub fn command(words: Vec<OsString>) -> Outcome {
     let arguments = Arguments::sort(words, &OPTIONS)?;
     arguments.at_most(1)?;
     let script = arguments.plain.first().map(PathBuf::from);
+    if let Some(members) = arguments.set()? {
+        return run_set::command(&arguments, script, &members);
+    }
     let part = arguments.part()?;
     test_files(&arguments, script.as_deref())?;
     test_capture(&arguments, part)?;
@@ -104,7 +108,7 @@ fn test_length(arguments: &Arguments, source: &dyn Source) -> Outcome {
 }
 
 /// Refuses a command line in which two words name one file.
-fn test_files(arguments: &Arguments, script: Option<&Path>) -> Outcome {
+pub(super) fn test_files(arguments: &Arguments, script: Option<&Path>) -> Outcome {
     let paths: Vec<(&str, PathBuf)> = FILES
         .into_iter()
         .filter_map(|option| Some((option, arguments.path(option)?)))

@@ -39,6 +39,8 @@ pub enum Action {
     FirstEdge,
     /// `c2`: an edge on CNT2.
     SecondEdge,
+    /// `c1@2` or `c2@2`: an edge of a device of a set; the event byte.
+    EdgeOfDevice(u8),
 }
 
 impl Action {
@@ -52,6 +54,7 @@ impl Action {
                 | Action::PowerReturned
                 | Action::FirstEdge
                 | Action::SecondEdge
+                | Action::EdgeOfDevice(_)
         )
     }
 }

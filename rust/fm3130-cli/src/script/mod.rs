@@ -19,6 +19,8 @@ use std::fs;
 use std::io::{self, Read};
 use std::path::Path;
 
+use fm3130::family::Select;
+
 use crate::chip::Part;
 use crate::failure::{Failure, Outcome};
 
@@ -26,6 +28,14 @@ use crate::failure::{Failure, Outcome};
 pub fn load(path: &Path, part: Part) -> Outcome<Plan> {
     let (name, text) = read(path)?;
     plan_of(&name, &text, part)
+}
+
+/// A script's plan for a set, whose devices have these select bits; `-` reads standard input.
+pub fn load_for_set(path: &Path, selects: &[Select]) -> Outcome<Plan> {
+    let (name, text) = read(path)?;
+    let items = parse::parse_for_set(&text, selects)
+        .map_err(|problem| Failure::Script(problem.shown_in(&name, &text)))?;
+    Ok(Plan::of(&items))
 }
 
 /// The turns of a script of two masters; `-` reads standard input.

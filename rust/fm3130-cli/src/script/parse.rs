@@ -1,6 +1,7 @@
 // SPDX-License-Identifier: Apache-2.0
 //! From text to items.
 
+use fm3130::family::{edge_1, edge_2, Select};
 use fm3130::masters::Master;
 
 use super::item::{Action, Item, Ninth, Turn};
@@ -18,11 +19,33 @@ const KNOWN_WORDS: &str =
 const KNOWN_WITH_EDGES: &str =
     "known: [ ] r r+ R r- t c1 c2 lost gone power, bytes as A0 or 0xA0, clocks as {0110}";
 
+/// The same for a set.
+const KNOWN_IN_A_SET: &str =
+    "known: [ ] r r+ R r- t c1@0 c2@0 lost gone power, bytes as A0 or 0xA0, clocks as {0110}";
+
+/// What a script is for.
+#[derive(Clone, Copy)]
+enum Target<'run> {
+    /// One device of a part.
+    One(Part),
+    /// A set, whose devices have these select bits by their places.
+    Set(&'run [Select]),
+}
+
 /// The items of a text for a part, or the first problem in it.
 pub fn parse(text: &str, part: Part) -> Result<Vec<Item>, Problem> {
+    parse_for(text, Target::One(part))
+}
+
+/// The items of a text for a set, whose devices have these select bits, or the first problem in it.
+pub fn parse_for_set(text: &str, selects: &[Select]) -> Result<Vec<Item>, Problem> {
+    parse_for(text, Target::Set(selects))
+}
+
+fn parse_for(text: &str, target: Target) -> Result<Vec<Item>, Problem> {
     let mut items = Vec::new();
     for (index, content) in text.lines().enumerate() {
-        let mut line = Line::new(index + 1, content, part);
+        let mut line = Line::new(index + 1, content, target);
         while line.skip_to_item() {
             items.push(line.item()?);
         }
@@ -34,7 +57,7 @@ pub fn parse(text: &str, part: Part) -> Result<Vec<Item>, Problem> {
 pub fn parse_turns(text: &str) -> Result<Vec<Turn>, Problem> {
     let mut turns: Vec<Turn> = Vec::new();
     for (index, content) in text.lines().enumerate() {
-        let mut line = Line::new(index + 1, content, Part::Fm3130);
+        let mut line = Line::new(index + 1, content, Target::One(Part::Fm3130));
         while line.skip_to_item() {
             if let Some(master) = line.master() {
                 turns.push(Turn {
@@ -65,21 +88,21 @@ pub fn parse_turns(text: &str) -> Result<Vec<Turn>, Problem> {
 }
 
 /// One line, read from left to right.
-struct Line {
+struct Line<'run> {
     number: usize,
     signs: Vec<char>,
     next: usize,
-    /// The part that the script is for.
-    part: Part,
+    /// What the script is for.
+    target: Target<'run>,
 }
 
-impl Line {
-    fn new(number: usize, content: &str, part: Part) -> Line {
+impl<'run> Line<'run> {
+    fn new(number: usize, content: &str, target: Target<'run>) -> Line<'run> {
         Line {
             number,
             signs: content.chars().collect(),
             next: 0,
-            part,
+            target,
         }
     }
 
@@ -210,7 +233,7 @@ impl Line {
             self.next += 1;
         }
         let word: String = self.signs[begin..self.next].iter().collect();
-        match meaning_of(&word, self.part) {
+        match meaning_of(&word, self.target) {
             Ok(action) => Ok(action),
             Err((message, advice)) => Err(Problem::new(self.since(begin), message, advice)),
         }
@@ -246,11 +269,12 @@ impl Line {
 }
 
 /// What a word asks for; else a message and advice.
-fn meaning_of(word: &str, part: Part) -> Result<Action, (String, String)> {
+fn meaning_of(word: &str, target: Target) -> Result<Action, (String, String)> {
+    if let Some((pin @ ("c1" | "c2"), select)) = word.split_once('@') {
+        return edge_of_device(word, pin, select, target);
+    }
     match word {
-        "c1" | "c2" if !part.has_counters() => Err(no_counters(word, part)),
-        "c1" => Ok(Action::FirstEdge),
-        "c2" => Ok(Action::SecondEdge),
+        "c1" | "c2" => edge(word, target),
         "r" => Ok(Action::Read(Ninth::ByWhatFollows)),
         "r+" => Ok(Action::Read(Ninth::Acknowledge)),
         "R" | "r-" => Ok(Action::Read(Ninth::Release)),
@@ -258,8 +282,51 @@ fn meaning_of(word: &str, part: Part) -> Result<Action, (String, String)> {
         "lost" => Ok(Action::PowerLost),
         "gone" => Ok(Action::PowerGone),
         "power" => Ok(Action::PowerReturned),
-        _ => byte_of(word, part).map(Action::Write),
+        _ => byte_of(word, target).map(Action::Write),
     }
+}
+
+/// An edge that names no device: that of the one part of a script.
+fn edge(word: &str, target: Target) -> Result<Action, (String, String)> {
+    match target {
+        Target::One(part) if !part.has_counters() => Err(no_counters(word, part)),
+        Target::One(_) if word == "c1" => Ok(Action::FirstEdge),
+        Target::One(_) => Ok(Action::SecondEdge),
+        Target::Set(selects) => Err((
+            format!("{word} does not say which device of the set"),
+            format!("write {}", list_of(selects, &format!("{word}@"))),
+        )),
+    }
+}
+
+/// An edge that names a device of a set by its select bits.
+fn edge_of_device(
+    word: &str,
+    pin: &str,
+    select: &str,
+    target: Target,
+) -> Result<Action, (String, String)> {
+    let Target::Set(selects) = target else {
+        let message = format!("{word} names a device of a set, and there is one part");
+        let advice = format!("write {pin}, or make a set of parts such as --part fm3164@0");
+        return Err((message, advice));
+    };
+    let has_bits = |one: &Select| one.to_string() == select;
+    let Some(place) = selects.iter().position(has_bits) else {
+        let message = format!("{word} names no device of the set");
+        let advice = format!("write {}", list_of(selects, &format!("{pin}@")));
+        return Err((message, advice));
+    };
+    Ok(Action::EdgeOfDevice(match pin {
+        "c1" => edge_1(place),
+        _ => edge_2(place),
+    }))
+}
+
+/// Some words that differ in their select bits, for whoever wrote another.
+fn list_of(selects: &[Select], begin: &str) -> String {
+    let words: Vec<String> = selects.iter().map(|one| format!("{begin}{one}")).collect();
+    words.join(" or ")
 }
 
 /// Two digits that look like a byte are an edge in every script, and never a byte by accident.
@@ -272,7 +339,7 @@ fn no_counters(word: &str, part: Part) -> (String, String) {
 }
 
 /// The byte that a word writes; else a message and advice.
-fn byte_of(word: &str, part: Part) -> Result<u8, (String, String)> {
+fn byte_of(word: &str, target: Target) -> Result<u8, (String, String)> {
     let prefixed = word.strip_prefix("0x").or_else(|| word.strip_prefix("0X"));
     let digits = prefixed.unwrap_or(word);
     let is_number = !digits.is_empty() && digits.chars().all(|sign| sign.is_ascii_hexdigit());
@@ -281,9 +348,10 @@ fn byte_of(word: &str, part: Part) -> Result<u8, (String, String)> {
         return Err((message, "write 0x and two hexadecimal digits".to_string()));
     }
     if !is_number {
-        let known = match part.has_counters() {
-            true => KNOWN_WITH_EDGES,
-            false => KNOWN_WORDS,
+        let known = match target {
+            Target::Set(_) => KNOWN_IN_A_SET,
+            Target::One(part) if part.has_counters() => KNOWN_WITH_EDGES,
+            Target::One(_) => KNOWN_WORDS,
         };
         return Err((format!("unknown word {word}"), known.to_string()));
     }
@@ -404,6 +472,46 @@ mod tests {
         let unknown = super::parse("lots", Part::Family(Size::Kb64)).unwrap_err();
         assert!(unknown.advice.contains(" c1 c2 "));
         assert_eq!(parse("C1 0xc1 c0 c3").unwrap().len(), 4);
+    }
+
+    #[test]
+    fn edges_of_a_set_name_their_device() {
+        let selects = [Select::TWO, Select::ZERO];
+        let items = parse_for_set("c1@2 c2@0*5 C1", &selects).unwrap();
+        let expected = [
+            once(Action::EdgeOfDevice(edge_1(0))),
+            Item {
+                action: Action::EdgeOfDevice(edge_2(1)),
+                times: 5,
+            },
+            once(Action::Write(0xC1)),
+        ];
+        assert_eq!(items, expected);
+        let problem = |text: &str| {
+            let problem = parse_for_set(text, &selects).expect_err(text);
+            (problem.place.width, problem.message, problem.advice)
+        };
+        let (width, message, advice) = problem("[ c1 ]");
+        assert_eq!(
+            (width, message.as_str(), advice.as_str()),
+            (
+                2,
+                "c1 does not say which device of the set",
+                "write c1@2 or c1@0"
+            )
+        );
+        for word in ["c2@1", "c2@", "c2@4", "c2@02", "c2@x"] {
+            let (width, message, advice) = problem(word);
+            assert_eq!(width, word.len());
+            assert_eq!(message, format!("{word} names no device of the set"));
+            assert_eq!(advice, "write c2@2 or c2@0");
+        }
+        assert!(problem("lots").2.contains(" c1@0 c2@0 "));
+        let alone = super::parse("c1@0", Part::Family(Size::Kb64)).unwrap_err();
+        assert_eq!(
+            alone.message,
+            "c1@0 names a device of a set, and there is one part"
+        );
     }
 
     #[test]

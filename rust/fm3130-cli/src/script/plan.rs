@@ -90,6 +90,7 @@ fn events_of(action: &Action) -> Vec<u8> {
         Action::PowerReturned => vec![event::POWER_RETURNED],
         Action::FirstEdge => vec![family::event::EDGE_1],
         Action::SecondEdge => vec![family::event::EDGE_2],
+        Action::EdgeOfDevice(event) => vec![*event],
     }
 }
 

@@ -1,0 +1,261 @@
+// SPDX-License-Identifier: Apache-2.0
+//! Sets on the command line: several `--part`, edges that name their device, who answers, what does not
+//! fit.
+
+mod support;
+
+use std::env;
+use std::fs;
+use std::path::Path;
+
+use fm3130::family::{edge_1, event, Member, Select, Set, Size};
+use support::{scripts, Folder};
+
+/// A set of two, their select bits 2 and 0.
+const TWO: [&str; 4] = ["--part", "fm31256@2", "--part", "fm3164@0"];
+
+/// What a run of a text says on the set of two.
+fn said(folder: &Folder, text: &str) -> String {
+    let ran = folder.run_with(&[&["run", "-"], &TWO[..]].concat(), text);
+    assert_eq!(ran.code, 0, "{}", ran.errors);
+    ran.output
+}
+
+/// The code and the error of a command that fails.
+fn failed(folder: &Folder, words: &[&str], text: &str) -> (i32, String) {
+    let ran = folder.run_with(words, text);
+    assert_ne!(ran.code, 0, "{words:?}");
+    assert_eq!(ran.output, "", "{words:?}");
+    (ran.code, ran.errors)
+}
+
+#[test]
+fn the_example_prints_what_is_expected() {
+    let folder = Folder::new("set-example");
+    let path = scripts().join("four-on-a-wire.set");
+    let text = fs::read_to_string(&path).unwrap();
+    // The line that says how it is played.
+    let line = text.lines().find(|line| line.contains("--part")).unwrap();
+    let parts = line.split_whitespace().skip_while(|word| *word != "--part");
+    let mut words = vec!["run", path.to_str().unwrap()];
+    words.extend(parts);
+    assert_eq!(words.len(), 10);
+    let printed = folder.succeed(&words);
+    let expected = Path::new(env!("CARGO_MANIFEST_DIR")).join("tests/expected/four-on-a-wire.txt");
+    if env::var_os("RENEW_EXPECTED").is_some() {
+        fs::write(&expected, &printed).unwrap();
+    }
+    let stored = fs::read_to_string(&expected).unwrap_or_default();
+    for (number, (one, other)) in printed.lines().zip(stored.lines()).enumerate() {
+        assert_eq!(one, other, "line {}", number + 1);
+    }
+    assert_eq!(printed, stored);
+}
+
+#[test]
+fn every_byte_says_who_answers() {
+    let folder = Folder::new("set-bytes");
+    let output = said(
+        &folder,
+        "[ A4 7F FF 5A 5B ] [ A0 1F FF [ A1 r ] [ A6 00 ] [ D2 ] [ 5E ]",
+    );
+    for line in [
+        "  write A4h  ACK   @2 slave byte: memory, write\n",
+        "  write 5Ah  ACK   @2 memory 7FFFh: stored\n",
+        "  write 5Bh  ACK   @2 memory 0000h: stored\n",
+        "  write A1h  ACK   @0 slave byte: memory, read\n",
+        "  read  00h  NACK  @0 memory 1FFFh\n",
+        "  write A6h  NACK  slave byte: memory, write, select bits 3: nobody has them\n",
+        "  line  00h  NACK  nobody listens\n",
+        "  write D2h  NACK  slave byte: companion, write, select bits 1: nobody has them\n",
+        "  write 5Eh  NACK  slave byte: another part\n",
+        "\nFM31256@2\nRegisters\n",
+        "Addresses  memory 0001h, companion 09h\n",
+        "\nFM3164@0\nRegisters\n",
+        "Addresses  memory 0000h, companion 09h\n",
+    ] {
+        assert!(output.contains(line), "{line}: {output}");
+    }
+}
+
+#[test]
+fn cut_bytes_and_a_master_that_holds_the_line() {
+    let folder = Folder::new("set-cut");
+    let output = said(
+        &folder,
+        "[ {1010} [ {101000100} ] [ {101001000} 00 {01} ] {11}",
+    );
+    for line in [
+        "  clocks  {1010}  slave byte, cut after 4 clocks: dropped\n",
+        "  write A2h  NACK  slave byte: memory, write, select bits 1: nobody has them; \
+         it is the master that holds the ninth bit low\n",
+        "  write A4h  ACK   @2 slave byte: memory, write\n",
+        "  clocks  {01}  @2 ",
+        "  clocks  {11}  outside a transfer\n",
+    ] {
+        assert!(output.contains(line), "{line}: {output}");
+    }
+}
+
+#[test]
+fn edges_of_two_devices_are_told_apart() {
+    let folder = Folder::new("set-edges");
+    let output = said(
+        &folder,
+        "c1@2*300 c1@0 c1@0 c2@0 [ A0 {10} c1@2 {1} ] t*100",
+    );
+    for line in [
+        "c1@2*300 300 edges on CNT1: counter 1 0 -> 300 (012Ch)\n",
+        "c1@0*2  2 edges on CNT1: counter 1 0 -> 2 (0002h)\n",
+        "c2@0    1 edge on CNT2: counter 2 0 -> 1 (0001h)\n",
+        "c1@2    1 edge on CNT1 after 2 clocks of a byte: counter 1 300 -> 301 (012Dh)\n",
+        "t*100   100 ticks (1 minute, 40 seconds): this part has no clock\n",
+        "Counters   1: 301 (012Dh), 2: 0 (0000h)\n",
+        "Counters   1: 2 (0002h), 2: 1 (0001h)\n",
+    ] {
+        assert!(output.contains(line), "{line}: {output}");
+    }
+}
+
+#[test]
+fn answers_are_those_of_the_library() {
+    let folder = Folder::new("set-answers");
+    let words = ["run", "-", "--quiet", "--answers", "answers"];
+    let text = "c1@0 [ A4 00 10 5A ] t*70 [ A4 00 10 [ A5 r ]";
+    let ran = folder.run_with(&[&words[..], &TWO[..]].concat(), text);
+    assert_eq!((ran.code, ran.output.as_str()), (0, ""), "{}", ran.errors);
+    let mut set = Set::new([
+        Member::fresh(Size::Kb256, Select::TWO),
+        Member::fresh(Size::Kb64, Select::ZERO),
+    ])
+    .unwrap();
+    let mut events = vec![edge_1(1), event::START];
+    let written = |bytes: &[u8]| -> Vec<u8> {
+        let clocks = bytes.iter().map(|byte| event::written_byte(*byte));
+        clocks.flatten().collect()
+    };
+    events.extend(written(&[0xA4, 0x00, 0x10, 0x5A]));
+    events.push(event::STOP);
+    events.extend([event::TICK; 70]);
+    events.push(event::START);
+    events.extend(written(&[0xA4, 0x00, 0x10]));
+    events.push(event::START);
+    events.extend(written(&[0xA5]));
+    events.extend(event::read_byte(false));
+    events.push(event::STOP);
+    assert_eq!(folder.read("answers"), set.run(&events).unwrap());
+    // With a transcript every event is done by itself; the answers are the same.
+    let words = ["run", "-", "--answers", "again"];
+    folder.run_with(&[&words[..], &TWO[..]].concat(), text);
+    assert_eq!(folder.read("again"), folder.read("answers"));
+}
+
+#[test]
+fn one_part_with_select_bits_is_a_set() {
+    let folder = Folder::new("set-one");
+    let ran = folder.run_with(&["run", "-", "--part=FM3164@1"], "[ A2 ] [ A0 ] c1@1");
+    assert_eq!(ran.code, 0, "{}", ran.errors);
+    assert!(ran.output.contains("write A2h  ACK   @1 slave byte"));
+    assert!(ran.output.contains("write A0h  NACK  slave byte"));
+    assert!(ran.output.contains("\nFM3164@1\n"));
+}
+
+#[test]
+fn sets_that_cannot_be_are_refused() {
+    let folder = Folder::new("set-refused");
+    let five = ["fm3164@0", "fm3164@1", "fm3164@2", "fm3164@3", "fm3164@0"];
+    for (parts, message) in [
+        (
+            &five[..],
+            "no set: a set has one to four devices (number 9)",
+        ),
+        (
+            &["fm3164@1", "fm31256@1"],
+            "no set: two devices have the same select bits (number 10)",
+        ),
+        (
+            &["fm3164@1", "fm31256"],
+            "fm31256 has no select bits; in a set every part has its own, such as fm31256@0",
+        ),
+        (&["fm3164", "fm3164"], "fm3164 has no select bits"),
+        (&["fm3164@4"], "fm3164@4: select bits are 0, 1, 2 or 3"),
+        (&["fm3164@"], "fm3164@: select bits are 0, 1, 2 or 3"),
+        (&["fm3130@0"], "fm3130@0: the FM3130 has no select bits"),
+        (&["fm99@0"], "fm99 is no part"),
+    ] {
+        let mut words = vec!["run", "-"];
+        words.extend(parts.iter().flat_map(|part| ["--part", part]));
+        let (code, errors) = failed(&folder, &words, "[ ]");
+        assert_eq!(code, 2, "{errors}");
+        assert!(errors.contains(message), "{message}: {errors}");
+    }
+}
+
+#[test]
+fn what_knows_no_sets_says_so() {
+    let folder = Folder::new("set-unknown");
+    for option in [
+        "--image",
+        "--memory",
+        "--vcd",
+        "--svg",
+        "--capture",
+        "--events",
+    ] {
+        let words = [&["run", "-", option, "file"], &TWO[..]].concat();
+        let (code, errors) = failed(&folder, &words, "[ ]");
+        assert_eq!(code, 2);
+        assert!(
+            errors.contains(&format!("{option} knows no sets")),
+            "{errors}"
+        );
+        assert!(!folder.file("file").exists(), "{option}");
+    }
+    let words = [&["run", "-", "--next-line"], &TWO[..]].concat();
+    assert!(failed(&folder, &words, "[ ]")
+        .1
+        .contains("--next-line knows no sets"));
+    assert!(failed(&folder, &[&["run"], &TWO[..]].concat(), "")
+        .1
+        .contains("run needs a SCRIPT"));
+    let words_of_others: [&[&str]; 5] = [
+        &["events", "-"],
+        &["view", "--memory", "file"],
+        &["fresh"],
+        &["share", "-"],
+        &["lamps", "-"],
+    ];
+    for words in words_of_others {
+        let words = [words, &["--part", "fm3164@1"]].concat();
+        let (code, errors) = failed(&folder, &words, "");
+        assert_eq!(code, 2);
+        let message = "fm3164@1 has select bits: it is for a set, which run alone knows";
+        assert!(errors.contains(message), "{words:?}: {errors}");
+    }
+    let words = ["events", "-", "--part", "fm3164", "--part", "fm3164"];
+    let (_, errors) = failed(&folder, &words, "");
+    assert!(errors.contains("--part is given twice"), "{errors}");
+}
+
+#[test]
+fn edges_that_name_no_device_are_shown() {
+    let folder = Folder::new("set-names");
+    let words = [&["run", "-"], &TWO[..]].concat();
+    let (code, errors) = failed(&folder, &words, "[ A0 c1 ]");
+    assert_eq!(code, 3);
+    assert!(
+        errors.contains("1:6: c1 does not say which device of the set"),
+        "{errors}"
+    );
+    assert!(errors.contains("write c1@2 or c1@0"), "{errors}");
+    let (_, errors) = failed(&folder, &words, "c2@1");
+    assert!(
+        errors.contains("c2@1 names no device of the set"),
+        "{errors}"
+    );
+    let (_, errors) = failed(&folder, &["run", "-", "--part", "fm3164"], "c2@0");
+    assert!(
+        errors.contains("c2@0 names a device of a set, and there is one part"),
+        "{errors}"
+    );
+}
