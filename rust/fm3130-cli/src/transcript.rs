@@ -62,8 +62,12 @@ fn edges_notation(report: &EdgeReport) -> String {
 /// Direction, value, acknowledge and meaning of a byte.
 fn byte_line(byte: &BusByte) -> String {
     let clocks = byte.clocks.len();
+    let meaning = match byte.device {
+        Some(select) => format!("@{select} {}", byte.meaning),
+        None => byte.meaning.clone(),
+    };
     if clocks < 8 || byte.is_stray {
-        return format!("  clocks  {{{}}}  {}", byte.digits(), byte.meaning);
+        return format!("  clocks  {{{}}}  {meaning}", byte.digits());
     }
     // What nobody hears is no write, and a released line is no read.
     let verb = match byte.direction {
@@ -72,10 +76,9 @@ fn byte_line(byte: &BusByte) -> String {
         Direction::Unheard => "line",
     };
     format!(
-        "  {verb:<5} {:02X}h  {:<5} {}{}",
+        "  {verb:<5} {:02X}h  {:<5} {meaning}{}",
         byte.value(),
         acknowledge(byte),
-        byte.meaning,
         remark(byte)
     )
 }

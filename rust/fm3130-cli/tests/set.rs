@@ -151,6 +151,36 @@ fn answers_are_those_of_the_library() {
 }
 
 #[test]
+fn a_drawing_has_a_colour_for_each_device() {
+    let folder = Folder::new("set-drawing");
+    let drawn = |text: &str| {
+        let words = ["run", "-", "--quiet", "--svg", "drawing"];
+        let ran = folder.run_with(&[&words[..], &TWO[..]].concat(), text);
+        assert_eq!((ran.code, ran.output.as_str()), (0, ""), "{}", ran.errors);
+        String::from_utf8(folder.read("drawing")).unwrap()
+    };
+    let has_line = |drawing: &str, color: &str| drawing.contains(&format!("stroke=\"{color}\""));
+    let (of_zero, of_two) = ("#d2600a", "#a3195b");
+    let zero = drawn("[ A0 ]");
+    assert!(has_line(&zero, of_zero) && !has_line(&zero, of_two));
+    assert!(zero.contains(">@0 memory, write<"), "{zero}");
+    let two = drawn("[ A4 ] c1@2");
+    assert!(has_line(&two, of_two) && !has_line(&two, of_zero));
+    assert!(two.contains(">@2 memory, write<") && two.contains(">c1@2<"));
+    let nobody = drawn("[ A2 ]");
+    assert!(!has_line(&nobody, of_zero) && !has_line(&nobody, of_two));
+    // The legend has both in each, and no other.
+    for drawing in [zero, two, nobody] {
+        for color in [of_zero, of_two] {
+            let legend = format!("width=\"18\" height=\"4\" fill=\"{color}\"");
+            assert!(drawing.contains(&legend));
+        }
+        assert!(drawing.contains(">@0</text>") && drawing.contains(">@2</text>"));
+        assert!(!drawing.contains(">@1</text>") && !drawing.contains(">@3</text>"));
+    }
+}
+
+#[test]
 fn one_part_with_select_bits_is_a_set() {
     let folder = Folder::new("set-one");
     let ran = folder.run_with(&["run", "-", "--part=FM3164@1"], "[ A2 ] [ A0 ] c1@1");
@@ -194,14 +224,7 @@ fn sets_that_cannot_be_are_refused() {
 #[test]
 fn what_knows_no_sets_says_so() {
     let folder = Folder::new("set-unknown");
-    for option in [
-        "--image",
-        "--memory",
-        "--vcd",
-        "--svg",
-        "--capture",
-        "--events",
-    ] {
+    for option in ["--image", "--memory", "--vcd", "--capture", "--events"] {
         let words = [&["run", "-", option, "file"], &TWO[..]].concat();
         let (code, errors) = failed(&folder, &words, "[ ]");
         assert_eq!(code, 2);

@@ -102,6 +102,7 @@ impl<'run> Grouping<'run> {
         };
         let byte = BusByte {
             direction: direction(&first),
+            device: meaning::hearer(&first, group.eighth.as_ref()),
             is_stray: !self.is_in_transfer,
             clocks: group.clocks,
             meaning: String::new(),
@@ -112,12 +113,8 @@ impl<'run> Grouping<'run> {
             Some(eighth) => meaning::of_whole_byte(&first, &eighth, byte.value()),
             None => meaning::of_part_byte(&first, byte.clocks.len()),
         };
-        let meaning = match meaning::hearer(&first, group.eighth.as_ref()) {
-            Some(select) => format!("@{select} {words}"),
-            None => words,
-        };
         self.tell(&Happening::Byte(BusByte {
-            meaning,
+            meaning: words,
             label,
             ..byte
         }))

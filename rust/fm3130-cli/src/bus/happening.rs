@@ -1,6 +1,7 @@
 // SPDX-License-Identifier: Apache-2.0
 //! What happened, in pieces that a reader thinks in.
 
+use fm3130::family::Select;
 use fm3130::Power;
 
 use super::edges::EdgeReport;
@@ -36,6 +37,8 @@ pub struct BusByte {
     pub clocks: Vec<BusClock>,
     /// Who sends.
     pub direction: Direction,
+    /// The device of a set that hears or sends it, if one does.
+    pub device: Option<Select>,
     /// True for clocks that follow no Start.
     pub is_stray: bool,
     /// What the byte means, in words.

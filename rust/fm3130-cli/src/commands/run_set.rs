@@ -5,10 +5,11 @@ use std::path::PathBuf;
 
 use fm3130::family::{Member, Select, Set, Size};
 
-use super::run::test_files;
+use super::run::{test_files, title_of};
 use crate::arguments::{wrong, Arguments};
 use crate::bus::{self, Grouping, Listener, Observer, Outputs};
 use crate::chip::State;
+use crate::drawing::Drawing;
 use crate::failure::Outcome;
 use crate::files::{self, Replacement};
 use crate::output::Output;
@@ -18,14 +19,7 @@ use crate::transcript::Transcript;
 use crate::words;
 
 /// Options with a file that are for one device.
-const FILES_OF_ONE: [&str; 6] = [
-    "--image",
-    "--memory",
-    "--vcd",
-    "--svg",
-    "--capture",
-    "--events",
-];
+const FILES_OF_ONE: [&str; 5] = ["--image", "--memory", "--vcd", "--capture", "--events"];
 
 /// Plays a script on fresh devices of these sizes and select bits.
 pub fn command(
@@ -42,16 +36,42 @@ pub fn command(
     let mut set = Set::new(fresh).map_err(|refusal| wrong(format!("no set: {refusal}")))?;
     let selects: Vec<Select> = members.iter().map(|(_, select)| *select).collect();
     let mut source = PlanSource::new(script::load_for_set(&script, &selects)?);
-    let answers = arguments.path("--answers");
-    let mut answers = answers.map(|path| Replacement::open(&path)).transpose()?;
+    let mut targets = Targets::open(arguments, title_of(&script))?;
     let mut output = Output::new();
     let printed = (!arguments.has("--quiet")).then_some(&mut output);
-    play_to(&mut set, &mut source, answers.as_mut(), printed)?;
+    play_to(&mut set, &mut source, &mut targets, printed)?;
     if !arguments.has("--quiet") {
         say_how_it_ends(&set, &mut output)?;
     }
     output.finish()?;
-    files::commit_all(answers.into_iter().collect())
+    files::commit_all(
+        [targets.answers, targets.svg]
+            .into_iter()
+            .flatten()
+            .collect(),
+    )
+}
+
+/// The files that a run of a set writes.
+struct Targets {
+    answers: Option<Replacement>,
+    svg: Option<Replacement>,
+    /// The drawing's title.
+    title: String,
+}
+
+impl Targets {
+    fn open(arguments: &Arguments, title: String) -> Outcome<Targets> {
+        let open = |option| {
+            let path = arguments.path(option);
+            path.map(|path| Replacement::open(&path)).transpose()
+        };
+        Ok(Targets {
+            answers: open("--answers")?,
+            svg: open("--svg")?,
+            title,
+        })
+    }
 }
 
 /// Refuses options that are for one device.
@@ -70,26 +90,33 @@ fn test_options(arguments: &Arguments) -> Outcome {
     }
 }
 
-/// Plays a script to standard output and to the file of answers.
+/// Plays a script to all who want to see it.
 fn play_to(
     set: &mut Set,
     source: &mut PlanSource,
-    answers: Option<&mut Replacement>,
+    targets: &mut Targets,
     output: Option<&mut Output>,
 ) -> Outcome {
     let prints = output.is_some();
     let mut transcript = output.map(Transcript::new);
-    let transcript = transcript.as_mut().map(|one| one as &mut dyn Listener);
     let first = State::of_member(&set.members()[0]);
-    let mut grouping = Grouping::new(transcript.into_iter().collect(), &first, None);
+    let selects: Vec<Select> = set.members().iter().map(Member::select).collect();
+    let svg = targets.svg.as_mut();
+    let mut drawing =
+        svg.map(|file| Drawing::new(file, &targets.title, &first, None).of_set(&selects));
+    let mut listeners: Vec<&mut dyn Listener> = Vec::new();
+    listeners.extend(transcript.as_mut().map(|one| one as &mut dyn Listener));
+    listeners.extend(drawing.as_mut().map(|one| one as &mut dyn Listener));
+    let is_heard = !listeners.is_empty();
+    let mut grouping = Grouping::new(listeners, &first, None);
     let mut observers: Vec<&mut dyn Observer> = Vec::new();
-    if prints {
+    if is_heard {
         observers.push(&mut grouping);
     }
     let mut outputs = Outputs {
         observers,
         prints,
-        answers,
+        answers: targets.answers.as_mut(),
         recording: None,
         lamps: None,
     };

@@ -9,6 +9,7 @@ pub mod page;
 mod row;
 mod wires;
 
+use fm3130::family::Select;
 use fm3130::{event, Calendar, Pin, Report};
 
 use crate::bus::{Beside, BusByte, EdgeReport, Happening, Listener, PowerChange, TickReport};
@@ -36,6 +37,8 @@ pub struct Drawing<'run> {
     clocks: usize,
     /// A clock to point at; the mark counts all clocks of the drawing before it.
     pointed: Option<Mark>,
+    /// The select bits of the devices of a set; none of a single device.
+    set: Vec<Select>,
 }
 
 impl<'run> Drawing<'run> {
@@ -56,6 +59,15 @@ impl<'run> Drawing<'run> {
             marks: Vec::new(),
             clocks: 0,
             pointed: None,
+            set: Vec::new(),
+        }
+    }
+
+    /// The drawing of a set, whose devices have these select bits: each has a colour of its own.
+    pub fn of_set(self, set: &[Select]) -> Drawing<'run> {
+        Drawing {
+            set: set.to_vec(),
+            ..self
         }
     }
 
@@ -225,7 +237,7 @@ impl Listener for Drawing<'_> {
                 "fm3130: the drawing stops after {MOST_CELLS} cells; --vcd has no such limit"
             );
         }
-        let page = page::whole(&self.title, &self.rows, is_cut, self.has_lamps);
+        let page = page::whole(&self.title, &self.rows, is_cut, self.has_lamps, &self.set);
         self.file.write(page.as_bytes())
     }
 }

@@ -1,6 +1,8 @@
 // SPDX-License-Identifier: Apache-2.0
 //! All of a drawing that is not a row: head, legend, colours.
 
+use fm3130::family::Select;
+
 use super::row;
 use super::wires::Puller;
 
@@ -31,12 +33,31 @@ pub const INK: &str = "#1f2937";
 /// The colour of text that is less important.
 pub const FAINT: &str = "#6b7280";
 
+/// The colours of the devices of a set, by their select bits: of the line, and of a byte.
+const DEVICES: [(&str, &str); 4] = [
+    ("#d2600a", SENT_BY_DEVICE),
+    ("#0f7b5f", "#d3efe4"),
+    ("#a3195b", "#f6d3e6"),
+    ("#6b5200", "#e9dfc3"),
+];
+
+/// The colours of a device; one that is alone has those of select bits 0.
+fn colors_of(device: Option<Select>) -> (&'static str, &'static str) {
+    let select = device.map_or(0, Select::bits);
+    DEVICES[usize::from(select)]
+}
+
+/// The colour of a byte that a device sends.
+pub fn sent_by(device: Option<Select>) -> &'static str {
+    colors_of(device).1
+}
+
 /// Colours that can be told apart by all eyes and in print.
 pub fn color_of(puller: Puller) -> &'static str {
     match puller {
         Puller::Nobody => "#8a94a3",
         Puller::Master => "#1f5fa8",
-        Puller::Device => "#d2600a",
+        Puller::Device(device) => colors_of(device).0,
         Puller::Both => "#7b3fa0",
     }
 }
@@ -46,8 +67,14 @@ pub const LIT: &str = "#e0a100";
 /// The colour of a lamp that is dark.
 pub const DARK: &str = "#d5dae1";
 
-/// The whole drawing.
-pub fn whole(title: &str, rows: &[String], is_cut: bool, has_lamps: bool) -> String {
+/// The whole drawing; of a set, with the select bits of its devices.
+pub fn whole(
+    title: &str,
+    rows: &[String],
+    is_cut: bool,
+    has_lamps: bool,
+    set: &[Select],
+) -> String {
     let foot = if is_cut { 30.0 } else { 10.0 };
     let height_of_row = row::height(has_lamps);
     let height = HEAD + height_of_row * rows.len() as f64 + foot;
@@ -57,7 +84,7 @@ pub fn whole(title: &str, rows: &[String], is_cut: bool, has_lamps: bool) -> Str
          viewBox=\"0 0 {WIDTH} {height}\" font-family=\"DejaVu Sans, Verdana, sans-serif\">\n\
          <rect width=\"100%\" height=\"100%\" fill=\"#ffffff\"/>\n"
     );
-    page.push_str(&head(title));
+    page.push_str(&head(title, set));
     for (index, row) in rows.iter().enumerate() {
         let top = HEAD + height_of_row * index as f64;
         page.push_str(&format!(
@@ -73,25 +100,43 @@ pub fn whole(title: &str, rows: &[String], is_cut: bool, has_lamps: bool) -> Str
 }
 
 /// Title and legend.
-fn head(title: &str) -> String {
+fn head(title: &str, set: &[Select]) -> String {
     let mut head = text(20.0, 26.0, 15.0, "start", INK, title);
     let words = "S Start, Sr repeated Start, P Stop. A box has the colour of whoever sends it.";
     head.push_str(&text(20.0, 46.0, 10.0, "start", FAINT, words));
-    let legend = [
-        (Puller::Master, "master pulls SDA"),
-        (Puller::Device, "device pulls SDA"),
-        (Puller::Both, "both pull"),
-        (Puller::Nobody, "released"),
-    ];
+    let (legend, left, step) = match set {
+        [] => (legend_of_one(), 620.0, 140.0),
+        set => (legend_of_set(set), 560.0, 84.0),
+    };
     for (index, (puller, words)) in legend.into_iter().enumerate() {
-        let x = 620.0 + 140.0 * index as f64;
+        let x = left + step * index as f64;
         let color = color_of(puller);
         head.push_str(&format!(
             "<rect x=\"{x}\" y=\"38\" width=\"18\" height=\"4\" fill=\"{color}\"/>\n"
         ));
-        head.push_str(&text(x + 24.0, 46.0, 10.0, "start", INK, words));
+        head.push_str(&text(x + 24.0, 46.0, 10.0, "start", INK, &words));
     }
     head
+}
+
+fn legend_of_one() -> Vec<(Puller, String)> {
+    let legend = [
+        (Puller::Master, "master pulls SDA"),
+        (Puller::Device(None), "device pulls SDA"),
+        (Puller::Both, "both pull"),
+        (Puller::Nobody, "released"),
+    ];
+    legend.map(|(puller, words)| (puller, words.into())).into()
+}
+
+/// Who pulls SDA in a set, in few letters: there may be four devices.
+fn legend_of_set(set: &[Select]) -> Vec<(Puller, String)> {
+    let mut legend = vec![(Puller::Master, "master".to_string())];
+    let devices = set.iter();
+    legend.extend(devices.map(|one| (Puller::Device(Some(*one)), format!("@{one}"))));
+    legend.push((Puller::Both, "both".to_string()));
+    legend.push((Puller::Nobody, "released".to_string()));
+    legend
 }
 
 /// A text; `anchor` is start, middle or end.

@@ -84,7 +84,7 @@ pub struct Row {
     /// The path of SCL.
     clock: String,
     /// The paths of SDA, by who pulls.
-    data: [String; 4],
+    data: [String; Puller::ALL.len()],
 }
 
 /// The width of a byte, whole or cut.
@@ -153,10 +153,10 @@ impl Row {
         }
         let (from, to) = (data_height(before), data_height(puller));
         let path = format!("M{:.1} {from}H{x:.1}", self.data_from);
-        self.data[before as usize].push_str(&path);
+        self.data[before.place()].push_str(&path);
         if from != to {
             let edge = format!("M{x:.1} {from}V{to}");
-            self.data[puller as usize].push_str(&edge);
+            self.data[puller.place()].push_str(&edge);
         }
         self.data_from = x;
         self.wires.puller = puller;
@@ -200,11 +200,16 @@ impl Row {
         let begin = self.x;
         let width = width_of(byte);
         self.boundary_at(self.x);
-        self.label(8.0 * CLOCK, width, &byte.label);
+        let label = match byte.device {
+            Some(select) => format!("@{select} {}", byte.label),
+            None => byte.label.clone(),
+        };
+        self.label(8.0 * CLOCK, width, &label);
         self.boxes_of_byte(byte);
         for (index, clock) in byte.clocks.iter().enumerate() {
             self.marks_at(index, marks);
-            self.one_clock(clock, if index == 8 { NINTH } else { CLOCK });
+            let width = if index == 8 { NINTH } else { CLOCK };
+            self.one_clock(clock, Puller::at(clock, byte.device), width);
         }
         self.marks_at(byte.clocks.len(), marks);
         self.x = begin + width;
@@ -212,9 +217,10 @@ impl Row {
 
     /// The value in the sender's colour, and the acknowledge in its giver's.
     fn boxes_of_byte(&mut self, byte: &BusByte) {
+        let by_device = page::sent_by(byte.device);
         let (sender, taker) = match byte.direction {
-            Direction::Write => (page::SENT_BY_MASTER, page::SENT_BY_DEVICE),
-            Direction::Read => (page::SENT_BY_DEVICE, page::SENT_BY_MASTER),
+            Direction::Write => (page::SENT_BY_MASTER, by_device),
+            Direction::Read => (by_device, page::SENT_BY_MASTER),
             Direction::Unheard => (page::UNHEARD, page::UNHEARD),
         };
         let is_cut = byte.clocks.len() < 9;
@@ -238,10 +244,10 @@ impl Row {
     }
 
     /// A whole pulse of SCL with SDA steady.
-    fn one_clock(&mut self, clock: &BusClock, width: f64) {
+    fn one_clock(&mut self, clock: &BusClock, puller: Puller, width: f64) {
         let x = self.x;
         self.clock_to(x + 1.0, false);
-        self.data_to(x + 2.0, Puller::at(clock));
+        self.data_to(x + 2.0, puller);
         let middle = x + width / 2.0;
         self.clock_to(middle - CLOCK * 0.2, true);
         self.clock_to(middle + CLOCK * 0.25, false);
@@ -272,7 +278,7 @@ impl Row {
     /// The device lets go of SDA, since its power is lost.
     pub fn release(&mut self) {
         let puller = match self.wires.puller {
-            Puller::Nobody | Puller::Device => Puller::Nobody,
+            Puller::Nobody | Puller::Device(_) => Puller::Nobody,
             Puller::Master | Puller::Both => Puller::Master,
         };
         self.data_to(self.x + 2.0, puller);
@@ -329,7 +335,7 @@ impl Row {
     /// A line in the colour of the pin; dotted while it toggles.
     fn pin_path(&mut self, points: &str, pin: Pin) {
         let color = match pin.is_pulled_low() {
-            true => color_of(Puller::Device),
+            true => color_of(Puller::Device(None)),
             false => FAINT,
         };
         let dashes = if toggles(pin) { "2 2" } else { "none" };
@@ -379,12 +385,12 @@ impl Row {
         self.clock.push_str(&format!("H{end:.1}"));
         let puller = self.wires.puller;
         let rest = format!("M{:.1} {}H{end:.1}", self.data_from, data_height(puller));
-        self.data[puller as usize].push_str(&rest);
+        self.data[puller.place()].push_str(&rest);
         let mut row = self.shapes;
         row.push_str(&path(&self.clock, INK, 1.3));
         for puller in Puller::ALL {
             let width = if puller == Puller::Nobody { 1.4 } else { 2.2 };
-            row.push_str(&path(&self.data[puller as usize], color_of(puller), width));
+            row.push_str(&path(&self.data[puller.place()], color_of(puller), width));
         }
         row
     }

@@ -1,6 +1,7 @@
 // SPDX-License-Identifier: Apache-2.0
 //! The levels of the wires, which go on from cell to cell.
 
+use fm3130::family::Select;
 use fm3130::{Phase, Pin, PinFunction, Report};
 
 use crate::bus::BusClock;
@@ -13,22 +14,42 @@ pub enum Puller {
     Nobody,
     /// The master.
     Master,
-    /// The device.
-    Device,
-    /// Both.
+    /// The device; that of a set by its select bits.
+    Device(Option<Select>),
+    /// The master and a device.
     Both,
 }
 
 impl Puller {
     /// All of them.
-    pub const ALL: [Puller; 4] = [Puller::Nobody, Puller::Master, Puller::Device, Puller::Both];
+    pub const ALL: [Puller; 8] = [
+        Puller::Nobody,
+        Puller::Master,
+        Puller::Device(None),
+        Puller::Both,
+        Puller::Device(Some(Select::ZERO)),
+        Puller::Device(Some(Select::ONE)),
+        Puller::Device(Some(Select::TWO)),
+        Puller::Device(Some(Select::THREE)),
+    ];
 
-    /// Who pulls at a clock.
-    pub fn at(clock: &BusClock) -> Puller {
+    /// The place among all of them.
+    pub fn place(self) -> usize {
+        match self {
+            Puller::Nobody => 0,
+            Puller::Master => 1,
+            Puller::Device(None) => 2,
+            Puller::Both => 3,
+            Puller::Device(Some(select)) => 4 + usize::from(select.bits()),
+        }
+    }
+
+    /// Who pulls at a clock of a byte that a device of a set hears or sends, or the one device.
+    pub fn at(clock: &BusClock, device: Option<Select>) -> Puller {
         match (clock.master_is_high, clock.device_pulls) {
             (true, false) => Puller::Nobody,
             (false, false) => Puller::Master,
-            (true, true) => Puller::Device,
+            (true, true) => Puller::Device(device),
             (false, true) => Puller::Both,
         }
     }
@@ -72,6 +93,18 @@ impl Wires {
             has_pin: state.part == Part::Fm3130,
             lamps,
             ..Wires::free()
+        }
+    }
+}
+
+#[cfg(test)]
+mod tests {
+    use super::*;
+
+    #[test]
+    fn every_puller_has_its_own_place() {
+        for (place, puller) in Puller::ALL.into_iter().enumerate() {
+            assert_eq!(puller.place(), place);
         }
     }
 }
