@@ -33,7 +33,8 @@ pub const INK: &str = "#1f2937";
 /// The colour of text that is less important.
 pub const FAINT: &str = "#6b7280";
 
-/// The colours of the devices of a set, by their select bits: of the line, and of a byte.
+/// The colours of the devices of a set, by their select bits: of the line, and of a byte. Every byte has the
+/// select bits in words too, for whoever cannot tell four colours apart.
 const DEVICES: [(&str, &str); 4] = [
     ("#d2600a", SENT_BY_DEVICE),
     ("#0f7b5f", "#d3efe4"),
@@ -52,7 +53,7 @@ pub fn sent_by(device: Option<Select>) -> &'static str {
     colors_of(device).1
 }
 
-/// Colours that can be told apart by all eyes and in print.
+/// Colours that can be told apart by all eyes and in print, those of a set's devices left out.
 pub fn color_of(puller: Puller) -> &'static str {
     match puller {
         Puller::Nobody => "#8a94a3",
