@@ -247,7 +247,8 @@ pub fn hold(list: &FamilyList) {
     }
 }
 
-fn first_difference(expected: &[u8], found: &[u8]) -> Option<usize> {
+/// Where two runs of bytes first differ.
+pub fn first_difference(expected: &[u8], found: &[u8]) -> Option<usize> {
     expected
         .iter()
         .zip(found)

@@ -1,7 +1,7 @@
 // SPDX-License-Identifier: Apache-2.0
 //! One to four parts of the larger family on one line, on both programs.
 
-use crate::family::image_of;
+use crate::family::{first_difference, image_of};
 use crate::image::IMAGE_BYTES;
 use second::family::{Member, Set, Size, State};
 use second::generate::SetList;
@@ -169,16 +169,9 @@ pub fn hold(list: &SetList) {
             "{}/{}, at most {most} events a call: answers differ at {:?}, images at {:?} of {}",
             list.family,
             list.name,
-            difference(&expected_answers, &answers),
-            difference(&expected.images, &found.images),
+            first_difference(&expected_answers, &answers),
+            first_difference(&expected.images, &found.images),
             IMAGE_BYTES * begin.plan.len(),
         );
     }
-}
-
-fn difference(expected: &[u8], found: &[u8]) -> Option<usize> {
-    expected
-        .iter()
-        .zip(found)
-        .position(|(one, other)| one != other)
 }
