@@ -10,10 +10,10 @@ use lib.ListN.{length}
 use Rattle.wire.proofs.Tests.{by-test}
 use Rattle.device.specs.Chip.{memorySize}
 use Rattle.device.specs.Limits.{wellFormed}
-use Rattle.rig.specs.Image.{imageOf, decodeOf}
-use Rattle.rig.specs.declared.Decoded.the-variants.{Good}
+use Rattle.image.specs.Image.{imageOf, decodeOf}
+use Rattle.image.specs.declared.Decoded.the-variants.{Good}
 use Rattle.rig.specs.Run.{Outcome, allKnown}
-use Rattle.rig.proofs.Images.{decode-image}
+use Rattle.image.proofs.Images.{decode-image}
 use Rattle.rig.proofs.Runs.{outcome-written}
 use Rattle.handheld.specs.Bus.{mayAsk, mayCall, frees, masterNumber, holderNumber, standingOf}
 use Rattle.handheld.specs.Outcome.{AskOutcome, CallOutcome}

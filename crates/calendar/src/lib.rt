@@ -87,7 +87,7 @@ impl Calendar {
 
     // The next second of a valid calendar. Each field takes the carry of the one below it; the hours carry at
     // midnight, and that moves both the day of the week and the date.
-    fn tick(self) -> Advanced
+    pub fn tick(self) -> Advanced
         requires { ⌜ T (isValid self) ⌝ }
         ensures { λ r. ⌜ r ≡ tickOf self ⌝ }
     {

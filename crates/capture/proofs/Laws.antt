@@ -10,7 +10,7 @@ use lib.Dec.{leb, eqb}
 use lib.ListN.{length}
 use borrow.Author.Tests.{eqb-true, eqb-false, leb-true}
 use Rattle.wire.proofs.Tests.{by-test}
-use Rattle.rig.specs.Image.{candidate}
+use Rattle.image.specs.Image.{candidate}
 use Rattle.rig.proofs.Pieces.{answers-length}
 use Rattle.contents.specs.Table.{isSound, imageKind, memoryKind, eventsKind, answersKind}
 use Rattle.contents.specs.Sections.{firstFaulty, entryOf, sectionOf}

@@ -12,10 +12,10 @@ use lib.ListN.{length, take, drop}
 use borrow.Author.Tests.{le-leb, lt-leb, eq-eqb, ne-eqb, eqb-true}
 use Rattle.device.specs.Chip.{memorySize}
 use Rattle.device.specs.declared.State.{State}
-use Rattle.rig.specs.Image.{candidate, decodeOf}
+use Rattle.image.specs.Image.{candidate, decodeOf}
 use Rattle.rig.specs.Run.{runOf, allKnown}
-use Rattle.rig.specs.declared.Decoded.the-variants.{Good, Bad}
-use Rattle.rig.proofs.Images.{candidate-of, image-decode}
+use Rattle.image.specs.declared.Decoded.the-variants.{Good, Bad}
+use Rattle.image.proofs.Images.{candidate-of, image-decode}
 use Rattle.contents.specs.Table.{bodyOf, isState, isAccepted, imageKind, memoryKind, eventsKind, answersKind}
 use Rattle.contents.specs.Sections.{firstFaulty, entryOf, sectionOf}
 use Rattle.contents.specs.declared.Entry.{Entry}

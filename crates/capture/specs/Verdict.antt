@@ -12,7 +12,7 @@ use mathlib.Core.Bool.{cond}
 use mathlib.Core.List.{List, [], _∷_}
 use lib.Dec.{leb, eqb}
 use lib.ListN.{length}
-use Rattle.rig.specs.Image.{candidate}
+use Rattle.image.specs.Image.{candidate}
 use Rattle.rig.specs.Run.{runOf}
 use Rattle.contents.specs.Table.{imageKind, memoryKind, eventsKind, answersKind}
 use Rattle.contents.specs.Sections.{firstFaulty, sectionOf}

@@ -14,9 +14,9 @@ use contents::faults::first_faulty;
 use contents::sections::entry_of;
 use contents::sections::section;
 use frame::bytes::copy;
-use rig::Decoded;
-use rig::image::decode;
-use rig::run::MEMORY;
+use image::Decoded;
+use image::MEMORY;
+use image::read::decode;
 
 // The bytes of the longest capture: 60 KiB.
 const LIMIT: usize = 61440;

@@ -67,7 +67,7 @@ fn top_and_below(span: u8, byte: u8) -> u8
 }
 
 // What the register at an address from 02h on keeps of a byte.
-pub(crate) fn stored(address: u8, byte: u8) -> u8
+pub fn stored(address: u8, byte: u8) -> u8
     requires { ⌜ (TRIM < address) × (address ≤ LAST) ⌝ }
     ensures { λ r. ⌜ r ≡ storedAt address byte ⌝ }
 {

@@ -22,7 +22,7 @@ pub(crate) fn flagged(control: u8, af: bool, cf: bool) -> u8
 
 // 00h after a write of a byte: LB and POR stay only where the byte has them too, AF and CF stay, the low four are the
 // byte's.
-pub(crate) fn control_after(old: u8, byte: u8) -> u8
+pub fn control_after(old: u8, byte: u8) -> u8
     ensures { λ r. ⌜ r ≡ controlAfter old byte ⌝ }
 {
     let lb = only(has(old, LB) & has(byte, LB), LB);
@@ -40,7 +40,7 @@ pub fn flags_after(control: u8, byte: u8) -> u8
 }
 
 // Whether W falls in a write of 00h.
-pub(crate) fn w_falls(old: u8, byte: u8) -> bool
+pub fn w_falls(old: u8, byte: u8) -> bool
     ensures { λ r. ⌜ r ≡ wFalls old byte ⌝ }
 {
     has(old, W) & !has(byte, W)

@@ -16,16 +16,16 @@
 use calendar::Calendar;
 use calendar::Rolled;
 
-mod access;
+pub mod access;
 mod change;
 pub mod control;
 mod limits;
 pub mod map;
-mod part;
+pub mod part;
 pub mod pin;
-mod power;
+pub mod power;
 pub mod tick;
-mod write;
+pub mod write;
 
 // Registers 09h to 0Dh. Bit 7 of each is Match: 1 leaves the field out of the comparison.
 pub struct Alarm {

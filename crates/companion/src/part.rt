@@ -16,7 +16,7 @@ use crate::map::LAST;
 use calendar::Calendar;
 
 // The address after one: from 0Eh back to 00h.
-fn next_address(address: u8) -> u8
+pub fn next_address(address: u8) -> u8
     requires { ⌜ address ≤ LAST ⌝ }
     ensures { λ r. ⌜ r ≡ nextAddress address ⌝ }
 {

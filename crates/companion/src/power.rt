@@ -47,7 +47,7 @@ fn lost_registers() -> Registers
 }
 
 // 00h with POR at 1.
-fn por_set(control: u8) -> u8
+pub fn por_set(control: u8) -> u8
     ensures { λ r. ⌜ r ≡ porSet control ⌝ }
 {
     control / 32 * 32 + POR + control % 16

@@ -18,7 +18,7 @@ use crate::map::YEARS;
 use weights::has;
 
 // 01h after a write: OSCEN is taken, bit 6 is 0, the last six bits are taken only with CAL at 1.
-fn trim_after(control: u8, old: u8, byte: u8) -> u8
+pub fn trim_after(control: u8, old: u8, byte: u8) -> u8
     ensures { λ r. ⌜ r ≡ trimAfter control old byte ⌝ }
 {
     if has(control, CAL) {

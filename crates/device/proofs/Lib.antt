@@ -3,3 +3,4 @@ pub mod Cases
 pub mod Entry
 pub mod Wellformed
 pub mod Valid
+pub mod OnBus

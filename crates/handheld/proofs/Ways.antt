@@ -14,10 +14,10 @@ use Rattle.wire.proofs.Tests.{by-test, and-split}
 use Rattle.device.specs.Numbers.{accepted, wrongMemory, wrongState, unknownEvent, shortAnswers, notHeld}
 use Rattle.device.specs.Chip.{memorySize}
 use Rattle.device.specs.declared.State.{State}
-use Rattle.rig.specs.Image.{imageOf, decodeOf}
+use Rattle.image.specs.Image.{imageOf, decodeOf}
 use Rattle.rig.specs.Run.{RanThrough, allKnown, outcomeWith, outcomeOf}
 use Rattle.rig.specs.declared.Ran.{Ran}
-use Rattle.rig.specs.declared.Decoded.the-variants.{Good, Bad}
+use Rattle.image.specs.declared.Decoded.the-variants.{Good, Bad}
 use Rattle.rig.proofs.Runs.{outcome-short-answers, outcome-written, outcome-done}
 use Rattle.handheld.specs.Bus.{mayAsk, mayCall, masterNumber, holderOf, masterOf, isKnown, standingOf}
 use Rattle.handheld.specs.Outcome.{askOf, AskSettled, refusedCall, ranCall, busAfter, callOf, CallSettled}

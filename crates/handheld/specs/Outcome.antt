@@ -13,11 +13,11 @@ use lib.Dec.{eqb}
 use lib.ListN.{length}
 use Rattle.device.specs.Numbers.{accepted, wrongMemory, wrongState, unknownEvent, notHeld}
 use Rattle.device.specs.Chip.{memorySize}
-use Rattle.rig.specs.Image.{decodeOf}
+use Rattle.image.specs.Image.{decodeOf}
 use Rattle.rig.specs.Run.{Outcome, refused, outcomeOf, outcomeWith, allKnown}
 use Rattle.rig.specs.declared.Ran.{Ran}
-use Rattle.rig.specs.declared.Decoded.{Decoded}
-use Rattle.rig.specs.declared.Decoded.the-variants.{Good, Bad}
+use Rattle.image.specs.declared.Decoded.{Decoded}
+use Rattle.image.specs.declared.Decoded.the-variants.{Good, Bad}
 use Rattle.handheld.specs.Bus.{mayAsk, mayCall, masterNumber, standingOf, busFreed}
 use Rattle.handheld.specs.declared.Standing.{Standing}
 use Rattle.handheld.specs.declared.Standing.the-variants.{Known, Unknown}

@@ -13,10 +13,10 @@ use Rattle.companion.specs.Limits.{alarmWithin, registersWithin, isWithin}
 use Rattle.device.specs.Chip.{fm3130}
 use Rattle.device.specs.declared.State.{State}
 use Rattle.device.proofs.Wellformed.{between-well-formed}
-use Rattle.rig.specs.Image.{calendarBytes, imageOf}
+use Rattle.image.specs.Image.{calendarBytes, imageOf}
 use Rattle.rig.specs.Run.{runOf, outcomeOf}
 use Rattle.rig.specs.Calls.{leftOf}
-use Rattle.rig.proofs.Images.{decode-image}
+use Rattle.image.proofs.Images.{decode-image}
 use Rattle.rig.proofs.Calls.{leftBy, leaves-run, one-call}
 use Rattle.merging.specs.Merge.{eventsOf}
 use Rattle.merging.specs.Party.{PartyEvent}

@@ -17,10 +17,10 @@ use Rattle.bus.specs.declared.Power.the-variants.{On}
 use Rattle.device.specs.Chip.{fm3130}
 use Rattle.device.specs.Numbers.{accepted}
 use Rattle.device.specs.declared.State.{State}
-use Rattle.rig.specs.Image.{decodeOf}
+use Rattle.image.specs.Image.{decodeOf}
 use Rattle.rig.specs.Run.{outcomeOf}
 use Rattle.rig.specs.Calls.{Left, leftOf, Leaves}
-use Rattle.rig.specs.declared.Decoded.the-variants.{Good}
+use Rattle.image.specs.declared.Decoded.the-variants.{Good}
 use Rattle.merging.specs.Merge.{eventsOf, picked}
 use Rattle.merging.specs.Party.{to, isMemory, isCompanion, BusEvent, PartyEvent, Whole}
 use Rattle.merging.specs.Demand.{Merge}

@@ -38,12 +38,12 @@ use Rattle.device.specs.Event.{happening, eventOn, eventOf}
 use Rattle.device.specs.Limits.{isLegal, wellFormed}
 use Rattle.device.specs.declared.State.{State}
 use Rattle.frame.specs.Layout.{phaseOf}
-use Rattle.rig.specs.Accepting.{isImage}
-use Rattle.rig.specs.Image.{companionAt, candidate}
+use Rattle.image.specs.Accepting.{isImage}
+use Rattle.image.specs.Image.{companionAt, candidate}
 use Rattle.rig.specs.Run.{answerTo}
 use Rattle.line.specs.Line.{pulls, pullsOf, pulledAt, pullsAt, pullsWith, takenPulls, fetchedOf, lowBit, openedLow, sentPulls}
 use Rattle.line.specs.declared.Pulls.{Pulls}
-use Rattle.rig.proofs.Accepts.{image-well}
+use Rattle.image.proofs.Accepts.{image-well}
 
 -- bit 0 of an answer is the line
 low-bit : (n : ℕ) (l : Bool) → eqb ((2 * n + cond l 1 0) % 2) 0 ≡ not l

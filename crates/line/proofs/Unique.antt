@@ -4,7 +4,7 @@
 use Prim.Native.Nat.{ℕ}
 use mathlib.Core.Path.{_≡_}
 use mathlib.Core.List.{List}
-use Rattle.rig.proofs.Unique.{unique}
+use Rattle.image.proofs.Unique.{unique}
 use Rattle.line.specs.Line.{LineSettled}
 
 pub line-unique : (i m : List ℕ) (n n₂ : ℕ) → LineSettled i m n → LineSettled i m n₂ → n ≡ n₂

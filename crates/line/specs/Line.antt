@@ -28,10 +28,10 @@ use Rattle.device.specs.Numbers.{wrongMemory, wrongState}
 use Rattle.device.specs.Chip.{memorySize, fm3130}
 use Rattle.device.specs.Event.{eventOf}
 use Rattle.device.specs.declared.State.{State}
-use Rattle.rig.specs.Image.{decodeOf}
+use Rattle.image.specs.Image.{decodeOf}
 use Rattle.rig.specs.Run.{answerTo}
-use Rattle.rig.specs.declared.Decoded.{Decoded}
-use Rattle.rig.specs.declared.Decoded.the-variants.{Good, Bad}
+use Rattle.image.specs.declared.Decoded.{Decoded}
+use Rattle.image.specs.declared.Decoded.the-variants.{Good, Bad}
 use Rattle.line.specs.declared.Pulls.{Pulls}
 
 -- The device pulls the next Clock's line low: bit 0 of the answer to event 3 would be 0.

@@ -5,7 +5,7 @@
 use Prim.Native.Nat.{ℕ}
 use mathlib.Core.Path.{_≡_}
 use mathlib.Core.List.{List}
-use Rattle.rig.proofs.Unique.{unique}
+use Rattle.image.proofs.Unique.{unique}
 use Rattle.master.specs.Outcome.{Outcome, outcomeWith}
 use Rattle.master.specs.Outcome.{WriteEventsSettled, ReadEventsSettled, WriteToldSettled, ReadToldSettled}
 use Rattle.master.specs.declared.Filled.{Filled}

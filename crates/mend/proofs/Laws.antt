@@ -24,8 +24,8 @@ use Rattle.device.specs.Limits.{wellFormed}
 use Rattle.device.specs.Numbers.{accepted}
 use Rattle.device.specs.declared.State.{State}
 use Rattle.device.proofs.Entry.{limits-of, of-limits}
-use Rattle.rig.specs.Image.{calendarBytes, calendarAt, imageOf, decodeOf}
-use Rattle.rig.proofs.Images.{decode-image, image-registers}
+use Rattle.image.specs.Image.{calendarBytes, calendarAt, imageOf, decodeOf}
+use Rattle.image.proofs.Images.{decode-image, image-registers}
 use Rattle.mend.specs.Changes.{changesFrom, changedCount}
 use Rattle.mend.specs.Mend.{Outcome, mendedCompanion, mendedState, timeBytes, changesIn, written, mendOf}
 use Rattle.mend.specs.Laws.{registersIn, coreIn, Elsewhere, EverythingElseStays, EachByItself, OutputValid, Listed, ListsWhatChanged, ValidGivesNone, ValidStays, TwiceIsOnce}

@@ -12,11 +12,11 @@ use borrow.Author.Tests.{le-leb, lt-leb, leb-true, leb-false}
 use Rattle.wire.proofs.Tests.{by-test}
 use Rattle.device.specs.Numbers.{accepted, wrongState, shortAnswers}
 use Rattle.device.specs.declared.State.{State}
-use Rattle.rig.specs.Image.{imageOf, decodeOf}
-use Rattle.rig.specs.Reading.{WrittenBy}
-use Rattle.rig.specs.declared.Decoded.{Decoded}
-use Rattle.rig.specs.declared.Decoded.the-variants.{Good, Bad}
-use Rattle.rig.proofs.Images.{image-decode}
+use Rattle.image.specs.Image.{imageOf, decodeOf}
+use Rattle.image.specs.Reading.{WrittenBy}
+use Rattle.image.specs.declared.Decoded.{Decoded}
+use Rattle.image.specs.declared.Decoded.the-variants.{Good, Bad}
+use Rattle.image.proofs.Images.{image-decode}
 use Rattle.mend.specs.Changes.{changesFrom, changedCount, WrittenAt}
 use Rattle.mend.specs.Mend.{mendedState, timeBytes, changesIn, refused, written, mendOf, outcomeWith, MendSettled}
 use Rattle.mend.specs.declared.Mended.{Mended}

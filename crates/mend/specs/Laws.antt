@@ -19,8 +19,8 @@ use Rattle.calendar.specs.Mend.{mendedOf}
 use Rattle.calendar.specs.declared.Calendar.{Calendar}
 use Rattle.device.specs.Numbers.{accepted}
 use Rattle.device.specs.declared.State.{State}
-use Rattle.rig.specs.Image.{calendarAt, imageOf}
-use Rattle.rig.specs.Reading.{WrittenBy}
+use Rattle.image.specs.Image.{calendarAt, imageOf}
+use Rattle.image.specs.Reading.{WrittenBy}
 use Rattle.mend.specs.Changes.{changesFrom, changedCount}
 use Rattle.mend.specs.Mend.{mendedState, mendOf}
 

@@ -19,9 +19,9 @@ use Rattle.companion.specs.Change.{withTime}
 use Rattle.companion.specs.declared.Companion.{Companion}
 use Rattle.device.specs.Numbers.{accepted, wrongState, shortAnswers}
 use Rattle.device.specs.declared.State.{State}
-use Rattle.rig.specs.Image.{calendarBytes, imageOf, decodeOf}
-use Rattle.rig.specs.declared.Decoded.{Decoded}
-use Rattle.rig.specs.declared.Decoded.the-variants.{Good, Bad}
+use Rattle.image.specs.Image.{calendarBytes, imageOf, decodeOf}
+use Rattle.image.specs.declared.Decoded.{Decoded}
+use Rattle.image.specs.declared.Decoded.the-variants.{Good, Bad}
 use Rattle.mend.specs.Changes.{changesFrom, changedCount}
 use Rattle.mend.specs.declared.Mended.{Mended}
 

@@ -17,9 +17,9 @@ use device::State;
 use device::numbers::ACCEPTED;
 use device::numbers::SHORT_ANSWERS;
 use device::numbers::WRONG_STATE;
-use rig::Decoded;
-use rig::image::decode;
-use rig::image::write_image;
+use image::Decoded;
+use image::read::decode;
+use image::write::write_image;
 
 // The bytes that are listed of a register: its number, the old byte, the new byte.
 pub const LISTED: usize = 3;

@@ -2,12 +2,12 @@
 // The lamps as a program: events on standard input, one byte each, at most 65,536; FFh is no event and stands for a fresh
 // device with a memory of zeros and the record before any event. Each time the report changes a line is written: the place
 // of the byte in the input, counted from 0, and the report in hex, bit k for lamp k.
+use image::LENGTH;
+use image::MEMORY;
 use libc::STDIN_FILENO;
 use libc::STDOUT_FILENO;
 use proving::run::RECORD;
 use proving::run::fm3130_lamps;
-use rig::image::LENGTH;
-use rig::run::MEMORY;
 use rig::run::fm3130_fresh;
 
 // The byte that stands for a fresh device.

@@ -12,12 +12,12 @@ use lib.ListN.{length, replicate}
 use Rattle.device.specs.Chip.{memorySize}
 use Rattle.device.specs.Numbers.{accepted, wrongMemory, wrongState, unknownEvent, shortAnswers}
 use Rattle.device.specs.declared.State.{State}
-use Rattle.rig.specs.Image.{decodeOf}
-use Rattle.rig.specs.Reading.{decodedSays}
+use Rattle.image.specs.Image.{decodeOf}
+use Rattle.image.specs.Reading.{decodedSays}
 use Rattle.rig.specs.Run.{runOf, allKnown}
 use Rattle.rig.specs.Run as Plain
-use Rattle.rig.specs.declared.Decoded.{Decoded}
-use Rattle.rig.specs.declared.Decoded.the-variants.{Good, Bad}
+use Rattle.image.specs.declared.Decoded.{Decoded}
+use Rattle.image.specs.declared.Decoded.the-variants.{Good, Bad}
 use Rattle.lamps.specs.Step.{begun, reportOf}
 use Rattle.lamps.specs.Statement.{provenBy}
 use Rattle.lamps.specs.declared.Proving.{Proving}

@@ -16,9 +16,9 @@ use Rattle.device.specs.Numbers.{accepted, wrongMemory, wrongState, unknownEven
 use Rattle.device.specs.Chip.{memorySize}
 use Rattle.device.specs.Event.{eventOf}
 use Rattle.device.specs.declared.State.{State}
-use Rattle.rig.specs.Image.{imageOf, decodeOf}
+use Rattle.image.specs.Image.{imageOf, decodeOf}
 use Rattle.rig.specs.Run.{runOf, allKnown}
-use Rattle.rig.specs.declared.Decoded.the-variants.{Good, Bad}
+use Rattle.image.specs.declared.Decoded.the-variants.{Good, Bad}
 use Rattle.lamps.specs.Step.{stepOf, reportOf}
 use Rattle.lamps.specs.Statement.{answeredBy, provenBy}
 use Rattle.proving.specs.Kept.{keptSize, keptOf, bytesOf, isKept}

@@ -14,10 +14,10 @@ use Rattle.wire.specs.declared.Phase.the-variants.{Idle}
 use Rattle.device.specs.Chip.{memorySize}
 use Rattle.device.specs.Numbers.{accepted}
 use Rattle.device.specs.declared.State.{State}
-use Rattle.rig.specs.Image.{decodeOf}
+use Rattle.image.specs.Image.{decodeOf}
 use Rattle.rig.specs.Run.{runOf}
 use Rattle.rig.specs.Run as Plain
-use Rattle.rig.specs.declared.Decoded.the-variants.{Good}
+use Rattle.image.specs.declared.Decoded.the-variants.{Good}
 use Rattle.lamps.specs.Step.{begun}
 use Rattle.lamps.specs.Statement.{provenBy, deserved, logged}
 use Rattle.lamps.specs.declared.Proving.{Proving}

@@ -11,10 +11,10 @@ use lib.ListN.{length}
 use Rattle.device.specs.Numbers.{accepted, wrongMemory, wrongState, unknownEvent, shortAnswers}
 use Rattle.device.specs.Chip.{memorySize}
 use Rattle.device.specs.declared.State.{State}
-use Rattle.rig.specs.Image.{imageOf, decodeOf}
+use Rattle.image.specs.Image.{imageOf, decodeOf}
 use Rattle.rig.specs.Run.{Ended, runOf, answersOver, allKnown, RanThrough}
-use Rattle.rig.specs.declared.Decoded.{Decoded}
-use Rattle.rig.specs.declared.Decoded.the-variants.{Good, Bad}
+use Rattle.image.specs.declared.Decoded.{Decoded}
+use Rattle.image.specs.declared.Decoded.the-variants.{Good, Bad}
 use Rattle.lamps.specs.Step.{reportOf}
 use Rattle.lamps.specs.Statement.{provenBy}
 use Rattle.proving.specs.Kept.{keptOf, bytesOf, isKept}

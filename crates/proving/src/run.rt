@@ -19,11 +19,11 @@ use device::numbers::SHORT_ANSWERS;
 use device::numbers::UNKNOWN_EVENT;
 use device::numbers::WRONG_MEMORY;
 use device::numbers::WRONG_STATE;
+use image::Decoded;
+use image::MEMORY;
+use image::read::decode;
+use image::write::write_image;
 use lamps::Proving;
-use rig::Decoded;
-use rig::image::decode;
-use rig::image::write_image;
-use rig::run::MEMORY;
 use rig::run::all_known;
 
 // The bytes of a record.

@@ -14,11 +14,11 @@ use Rattle.wire.proofs.Tests.{by-test}
 use Rattle.device.specs.Numbers.{accepted}
 use Rattle.device.specs.Chip.{memorySize}
 use Rattle.device.specs.declared.State.{State}
-use Rattle.rig.specs.Image.{decodeOf}
+use Rattle.image.specs.Image.{decodeOf}
 use Rattle.rig.specs.Run.{runOf, allKnown, Outcome, refused, written, outcomeOf}
-use Rattle.rig.specs.declared.Decoded.{Decoded}
-use Rattle.rig.specs.declared.Decoded.the-variants.{Good, Bad}
-use Rattle.rig.proofs.Images.{decode-image, image-decode}
+use Rattle.image.specs.declared.Decoded.{Decoded}
+use Rattle.image.specs.declared.Decoded.the-variants.{Good, Bad}
+use Rattle.image.proofs.Images.{decode-image, image-decode}
 use Rattle.rig.proofs.Runs.{run-ok, outcome-wrong-memory, outcome-wrong-image, outcome-unknown-event}
 use Rattle.rig.proofs.Runs.{outcome-short-answers, outcome-written}
 

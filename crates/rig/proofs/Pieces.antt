@@ -18,9 +18,9 @@ use Rattle.device.specs.Limits.{wellFormed}
 use Rattle.device.specs.Step.{stepOf}
 use Rattle.device.specs.declared.State.{State}
 use Rattle.device.proofs.Entry.{step-answered}
-use Rattle.rig.specs.Image.{imageOf}
+use Rattle.image.specs.Image.{imageOf}
 use Rattle.rig.specs.Run.{following, answerTo, runOf, allKnown, Outcome, written, outcomeOf}
-use Rattle.rig.proofs.Images.{decode-image, image-decode}
+use Rattle.image.proofs.Images.{decode-image, image-decode}
 use Rattle.rig.proofs.Runs.{run-ok}
 use Rattle.rig.proofs.Runs.{outcome-written}
 use Rattle.rig.proofs.Ends.{Accepted, accepted-outcome, accepted-by, run-again}

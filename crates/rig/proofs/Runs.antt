@@ -21,10 +21,10 @@ use Rattle.device.specs.Event.{eventOf}
 use Rattle.device.specs.Limits.{wellFormed}
 use Rattle.device.specs.declared.State.{State}
 use Rattle.device.proofs.Wellformed.{event-ok}
-use Rattle.rig.specs.Image.{imageOf, decodeOf}
+use Rattle.image.specs.Image.{imageOf, decodeOf}
 use Rattle.rig.specs.Run.{Ended, following, answerTo, runOf, RanThrough, allKnown}
 use Rattle.rig.specs.Run.{refused, written, outcomeWith, outcomeOf}
-use Rattle.rig.specs.declared.Decoded.the-variants.{Good, Bad}
+use Rattle.image.specs.declared.Decoded.the-variants.{Good, Bad}
 
 -- the test of the events: what was seen of them, and the rest
 module _ (es : List ℕ) (i : ℕ) (k : Bool) where

@@ -10,7 +10,7 @@ use lib.Dec.{eqb}
 use lib.ListN.{length}
 use Rattle.device.specs.Numbers.{accepted, wrongState}
 use Rattle.device.specs.Power.{fresh}
-use Rattle.rig.specs.Image.{imageSize, imageOf}
+use Rattle.image.specs.Image.{imageSize, imageOf}
 
 -- What the entry returns, and the buffer it leaves.
 pub record Made : Type 0 where

@@ -1,8 +1,4 @@
 -- SPDX-License-Identifier: Apache-2.0
-pub mod Image
-pub mod Accepting
-pub mod Reading
 pub mod Run
 pub mod Calls
 pub mod Fresh
-pub mod View

@@ -15,8 +15,8 @@ use Rattle.device.specs.Chip.{memorySize, Done}
 use Rattle.device.specs.Event.{eventOf}
 use Rattle.device.specs.Answer.{answerByte}
 use Rattle.device.specs.declared.State.{State}
-use Rattle.rig.specs.Image.{imageOf, decodeOf}
-use Rattle.rig.specs.Reading.{decodedSays}
+use Rattle.image.specs.Image.{imageOf, decodeOf}
+use Rattle.image.specs.Reading.{decodedSays}
 use Rattle.rig.specs.declared.Ran.{Ran}
 
 -- What a list of events leaves: the state, the memory, and one answer an event.

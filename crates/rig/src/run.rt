@@ -9,13 +9,7 @@ ghost use Rattle.device.specs.Chip.{memorySize};
 ghost use Rattle.device.specs.Limits.{wellFormed};
 ghost use Rattle.rig.specs.Run.{allKnown, RanThrough, RunSettled};
 ghost use Rattle.rig.specs.Fresh.{FreshSettled};
-use crate::Decoded;
 use crate::Ran;
-use crate::image::LENGTH;
-use crate::image::decode;
-use crate::image::image_of;
-use crate::image::write_over;
-use device::MEMORY_SIZE;
 use device::State;
 use device::numbers::ACCEPTED;
 use device::numbers::SHORT_ANSWERS;
@@ -23,9 +17,12 @@ use device::numbers::UNKNOWN_EVENT;
 use device::numbers::WRONG_MEMORY;
 use device::numbers::WRONG_STATE;
 use frame::bytes::copy;
-
-// The bytes of memory, as a length.
-pub const MEMORY: usize = MEMORY_SIZE as usize;
+use image::Decoded;
+use image::LENGTH;
+use image::MEMORY;
+use image::read::decode;
+use image::write::image_of;
+use image::write::write_over;
 
 // Whether every event byte is one of the eight. All are tested, with no way out of the loop, so that many go at once.
 pub fn all_known(events: &[u8]) -> bool

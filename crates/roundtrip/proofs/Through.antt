@@ -12,9 +12,9 @@ use lib.ListN.{length, take, drop, drop-of-length-le}
 use lib.Seq.{take-append-seam}
 use borrow.Author.Tests.{le-leb, lt-ltb, eq-eqb, ne-eqb}
 use Rattle.device.specs.Chip.{memorySize}
-use Rattle.rig.specs.Image.{imageOf}
+use Rattle.image.specs.Image.{imageOf}
 use Rattle.rig.specs.Run.{Ended, runOf, allKnown, answersOver}
-use Rattle.rig.proofs.Images.{decode-image, image-decode}
+use Rattle.image.proofs.Images.{decode-image, image-decode}
 use Rattle.rig.proofs.Runs.{run-ok, outcome-written}
 use Rattle.rig.proofs.Pieces.{answers-length}
 use Rattle.transfers.specs.Clocks.{clockEvent, nineClocks, linesOf}

@@ -14,9 +14,9 @@ use Rattle.companion.specs.Part.{guardOf}
 use Rattle.device.specs.Numbers.{accepted}
 use Rattle.device.specs.Chip.{memorySize}
 use Rattle.device.specs.declared.State.{State}
-use Rattle.rig.specs.Image.{decodeOf}
+use Rattle.image.specs.Image.{decodeOf}
 use Rattle.rig.specs.Run as Run
-use Rattle.rig.specs.declared.Decoded.the-variants.{Good}
+use Rattle.image.specs.declared.Decoded.the-variants.{Good}
 use Rattle.master.specs.Numbers.{most}
 use Rattle.master.specs.Events.{writeCount, readCount}
 use Rattle.master.specs.Outcome.{Outcome, filled, writeEventsOf, readEventsOf, writeToldOf, readToldOf}

@@ -22,11 +22,11 @@ use Rattle.device.specs.Event.{happening, rolledBy, rolledIn}
 use Rattle.device.specs.Numbers.{accepted}
 use Rattle.device.specs.declared.State.{State}
 use Rattle.device.proofs.Cases.{tick-supplied, tick-unsupplied, no-tick}
-use Rattle.rig.specs.Image.{decodeOf}
+use Rattle.image.specs.Image.{decodeOf}
 use Rattle.rig.specs.Run.{runOf, allKnown}
 use Rattle.rig.specs.Run as Run
-use Rattle.rig.specs.declared.Decoded.{Decoded}
-use Rattle.rig.specs.declared.Decoded.the-variants.{Good, Bad}
+use Rattle.image.specs.declared.Decoded.{Decoded}
+use Rattle.image.specs.declared.Decoded.the-variants.{Good, Bad}
 use Rattle.rig.proofs.Runs.{outcome-written}
 use Rattle.single.specs.Single.{Outcome, singleOf}
 use Rattle.single.specs.Laws.{AsTheListRun, SilentExactly, NothingExactly, SaysWhatChanged}

@@ -12,8 +12,8 @@ use Rattle.device.specs.Numbers.{wrongMemory, wrongState, unknownEvent, shortAn
 use Rattle.device.specs.Chip.{memorySize}
 use Rattle.device.specs.Event.{eventOf, rolledIn}
 use Rattle.device.specs.declared.State.{State}
-use Rattle.rig.specs.Image.{decodeOf}
-use Rattle.rig.specs.declared.Decoded.the-variants.{Good, Bad}
+use Rattle.image.specs.Image.{decodeOf}
+use Rattle.image.specs.declared.Decoded.the-variants.{Good, Bad}
 use Rattle.single.specs.Single.{refused, answered, singleOf, SingleSettled}
 
 module _ (i m : List ℕ) (e : ℕ) (t : List ℕ) where

@@ -17,9 +17,9 @@ use Rattle.device.specs.Numbers.{accepted, wrongMemory, wrongState, unknownEven
 use Rattle.device.specs.Chip.{memorySize, Done}
 use Rattle.device.specs.Event.{eventOf, rolledIn}
 use Rattle.device.specs.Answer.{answerByte}
-use Rattle.rig.specs.Image.{imageOf, decodeOf}
-use Rattle.rig.specs.declared.Decoded.{Decoded}
-use Rattle.rig.specs.declared.Decoded.the-variants.{Good, Bad}
+use Rattle.image.specs.Image.{imageOf, decodeOf}
+use Rattle.image.specs.declared.Decoded.{Decoded}
+use Rattle.image.specs.declared.Decoded.the-variants.{Good, Bad}
 
 -- What a caller of the entry can see of it.
 pub record Outcome : Type 0 where

@@ -11,10 +11,10 @@ use device::numbers::SHORT_ANSWERS;
 use device::numbers::UNKNOWN_EVENT;
 use device::numbers::WRONG_MEMORY;
 use device::numbers::WRONG_STATE;
-use rig::Decoded;
-use rig::image::decode;
-use rig::image::write_image;
-use rig::run::MEMORY;
+use image::Decoded;
+use image::MEMORY;
+use image::read::decode;
+use image::write::write_image;
 
 // The bytes that are told of an event: its answer byte, and the number of the field.
 pub const TOLD: usize = 2;

@@ -9,12 +9,12 @@ use native.Mathlib.Omega.{arith}
 use lib.ListN.{length}
 use Rattle.days.specs.After.{mostTicks}
 use Rattle.device.specs.Chip.{memorySize}
-use Rattle.rig.specs.Image.{imageOf, decodeOf}
+use Rattle.image.specs.Image.{imageOf, decodeOf}
 use Rattle.rig.specs.Run.{Outcome}
 use Rattle.rig.specs.Fresh.{Made}
-use Rattle.rig.specs.declared.Decoded.{Decoded}
-use Rattle.rig.specs.declared.Decoded.the-variants.{Good, Bad}
-use Rattle.rig.proofs.Images.{image-decode, decode-image}
+use Rattle.image.specs.declared.Decoded.{Decoded}
+use Rattle.image.specs.declared.Decoded.the-variants.{Good, Bad}
+use Rattle.image.proofs.Images.{image-decode, decode-image}
 use Rattle.rig.proofs.Runs.{outcome-wrong-image, outcome-written}
 use Rattle.sleep.specs.CatchUp.{ticks, caughtUp, catchUpOf}
 use Rattle.sleep.specs.Laws.{SameAsList, AsTheListRun, NoneLeavesAll, AcceptedAgain}

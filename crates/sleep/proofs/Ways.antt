@@ -8,9 +8,9 @@ use borrow.Author.Tests.{le-leb, lt-leb}
 use Rattle.days.specs.After.{mostTicks}
 use Rattle.device.specs.Numbers.{accepted, wrongState, tooManyTicks}
 use Rattle.device.specs.declared.State.{State}
-use Rattle.rig.specs.Image.{imageOf, decodeOf}
+use Rattle.image.specs.Image.{imageOf, decodeOf}
 use Rattle.rig.specs.Fresh.{Made}
-use Rattle.rig.specs.declared.Decoded.the-variants.{Good, Bad}
+use Rattle.image.specs.declared.Decoded.the-variants.{Good, Bad}
 use Rattle.sleep.specs.CatchUp.{caughtUp, catchUpOf, CatchUpSettled}
 
 abbrev pub made : ℕ → List ℕ → Made

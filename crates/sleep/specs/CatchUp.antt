@@ -13,11 +13,11 @@ use lib.ListN.{replicate}
 use Rattle.days.specs.After.{mostTicks}
 use Rattle.device.specs.Numbers.{accepted, wrongState, tooManyTicks}
 use Rattle.device.specs.declared.State.{State}
-use Rattle.rig.specs.Image.{imageOf, decodeOf}
+use Rattle.image.specs.Image.{imageOf, decodeOf}
 use Rattle.rig.specs.Run.{runOf}
 use Rattle.rig.specs.Fresh.{Made}
-use Rattle.rig.specs.declared.Decoded.{Decoded}
-use Rattle.rig.specs.declared.Decoded.the-variants.{Good, Bad}
+use Rattle.image.specs.declared.Decoded.{Decoded}
+use Rattle.image.specs.declared.Decoded.the-variants.{Good, Bad}
 
 -- 01, Event bytes and answer bytes: "4 one-second tick": n of them.
 abbrev pub ticks : ℕ → List ℕ

@@ -11,9 +11,9 @@ use lib.ListN.{length}
 use Rattle.days.specs.After.{mostTicks}
 use Rattle.device.specs.Chip.{memorySize}
 use Rattle.device.specs.declared.State.{State}
-use Rattle.rig.specs.Image.{imageOf, decodeOf}
+use Rattle.image.specs.Image.{imageOf, decodeOf}
 use Rattle.rig.specs.Run.{outcomeOf}
-use Rattle.rig.specs.declared.Decoded.the-variants.{Good}
+use Rattle.image.specs.declared.Decoded.the-variants.{Good}
 use Rattle.sleep.specs.CatchUp.{ticks, caughtUp, catchUpOf}
 
 -- "One call for n ticks must leave registers, core, AF and CF exactly as n single ticks would": the number and the image are

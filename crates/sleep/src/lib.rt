@@ -11,9 +11,9 @@ use crate::ticks::state_caught_up;
 use device::numbers::ACCEPTED;
 use device::numbers::TOO_MANY_TICKS;
 use device::numbers::WRONG_STATE;
-use rig::Decoded;
-use rig::image::decode;
-use rig::image::write_image;
+use image::Decoded;
+use image::read::decode;
+use image::write::write_image;
 
 mod search;
 pub mod ticks;

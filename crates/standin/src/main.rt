@@ -8,10 +8,10 @@
 //
 // It ends with its input, or at a frame that is cut short.
 ghost use Prim.Native.Nat.{_≤_};
+use image::LENGTH;
+use image::MEMORY;
 use libc::STDIN_FILENO;
 use libc::STDOUT_FILENO;
-use rig::image::LENGTH;
-use rig::run::MEMORY;
 use rig::run::fm3130_fresh;
 use rig::run::fm3130_run;
 

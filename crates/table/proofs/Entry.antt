@@ -15,7 +15,7 @@ use Rattle.device.specs.Answer.{pinShown}
 use Rattle.device.specs.declared.State.{State}
 use Rattle.rig.specs.Run.{Ended, answerTo, runOf, allKnown, outcomeOf}
 use Rattle.rig.specs.Calls.{Left, leftOf}
-use Rattle.rig.proofs.Images.{image-decode}
+use Rattle.image.proofs.Images.{image-decode}
 use Rattle.rig.proofs.Ends.{Accepted, accepted-number, accepted-by}
 use Rattle.rig.proofs.Pieces.{run-append, known-append}
 use Rattle.rig.proofs.Calls.{leaves-accepted, leaves-run, leaves-state, one-call}

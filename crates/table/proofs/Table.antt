@@ -21,9 +21,9 @@ use Rattle.companion.specs.Tick as Companions
 use Rattle.device.specs.Chip.{memorySize}
 use Rattle.device.specs.Event.{happening, eventOn}
 use Rattle.device.specs.Power.{fresh}
-use Rattle.rig.specs.Image.{imageOf}
+use Rattle.image.specs.Image.{imageOf}
 use Rattle.rig.specs.Run.{runOf, allKnown, Outcome}
-use Rattle.rig.proofs.Images.{decode-fresh}
+use Rattle.image.proofs.Images.{decode-fresh}
 use Rattle.rig.proofs.Runs.{outcome-written}
 use Rattle.table.specs.Table.{Gives, exactEvents, exactAnswers, Table}
 

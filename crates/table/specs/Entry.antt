@@ -12,10 +12,10 @@ use mathlib.Core.List.{List, [], _∷_, _++_}
 use lib.ListN.{getD}
 use Rattle.device.specs.Numbers.{accepted}
 use Rattle.device.specs.declared.State.{State}
-use Rattle.rig.specs.Image.{decodeOf}
+use Rattle.image.specs.Image.{decodeOf}
 use Rattle.rig.specs.Run.{outcomeOf}
 use Rattle.rig.specs.Calls.{Left, leftOf, Leaves}
-use Rattle.rig.specs.declared.Decoded.the-variants.{Good}
+use Rattle.image.specs.declared.Decoded.the-variants.{Good}
 use Rattle.table.specs.Stored.{clockEvent, Byte, AtData, StoredAt}
 use Rattle.table.specs.Protected.{Protected}
 use Rattle.table.specs.Throughout.{BeforeEach}

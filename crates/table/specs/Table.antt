@@ -15,7 +15,7 @@ use Rattle.companion.specs.Map.{AF, CF}
 use Rattle.device.specs.Chip.{memorySize}
 use Rattle.device.specs.Power.{fresh}
 use Rattle.device.specs.declared.State.{State}
-use Rattle.rig.specs.Image.{imageOf}
+use Rattle.image.specs.Image.{imageOf}
 use Rattle.rig.specs.Run.{runOf, outcomeOf}
 use Rattle.table.specs.Script.{clocksOf, sent, memoryWrite, companionWrite, withSetup, running, alarmed}
 

@@ -4,7 +4,7 @@
 use mathlib.Core.Path.{sym}
 use denote.Ref.{now}
 use Rattle.line.specs.Line.{fetchedOf}
-use Rattle.rig.proofs.Places.{load-place}
+use Rattle.image.proofs.Places.{load-place}
 use borrow.Author.Needs.{needs}
 use Rattle.line.proofs.fetched.Statement.{statement}
 use Rattle.line.proofs.fetched.Tie as tie

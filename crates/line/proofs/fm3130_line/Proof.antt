@@ -4,7 +4,7 @@
 use mathlib.Core.Path.{sym, ap, _∙_}
 use borrow.Author.Tests.{eq-eqb, ne-eqb, not-true, not-false}
 use Rattle.line.specs.Line.{lineOf, toldBy}
-use Rattle.rig.proofs.Accepts.{image-read, image-not-read}
+use Rattle.image.proofs.Accepts.{image-read, image-not-read}
 use borrow.Author.Needs.{needs}
 use Rattle.line.proofs.fm3130_line.Statement.{statement}
 use Rattle.line.proofs.fm3130_line.Tie as tie

@@ -9,7 +9,7 @@ use borrow.Author.Needs.{needs}
 use borrow.Author.Tests.{eq-eqb, ne-eqb, not-true, not-false}
 use Rattle.weights.specs.Weight.{has}
 use Rattle.companion.specs.Map.{W}
-use Rattle.rig.specs.Image.{calendarAt}
+use Rattle.image.specs.Image.{calendarAt}
 use Rattle.line.proofs.loads_bad_date.Statement.{statement}
 use Rattle.line.proofs.loads_bad_date.Tie as tie
 

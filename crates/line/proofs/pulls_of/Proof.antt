@@ -4,8 +4,8 @@
 use mathlib.Core.Path.{refl, sym, _∙_}
 use native.Mathlib.Omega.{arith}
 use denote.Ref.{now}
-use Rattle.rig.proofs.Accepts.{image-long}
-use Rattle.rig.proofs.Places.{image-places}
+use Rattle.image.proofs.Accepts.{image-long}
+use Rattle.image.proofs.Places.{image-places}
 use Rattle.line.proofs.Lines.{line-at, idle-at, slave-pulls, high-pulls, low-pulls, pointer-pulls, put-pulls, store-pulls, read-pulls}
 use borrow.Author.Needs.{needs}
 use Rattle.line.proofs.pulls_of.Statement.{statement}

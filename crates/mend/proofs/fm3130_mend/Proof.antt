@@ -9,9 +9,9 @@ use denote.Ref.{now}
 use lib.ListN.{length}
 use borrow.Author.Needs.{needs}
 use Rattle.device.specs.declared.State.{State}
-use Rattle.rig.specs.declared.Decoded.the-variants.{Good}
-use Rattle.rig.specs.Image.{imageOf, decodeOf}
-use Rattle.rig.proofs.Images.{settled-decode, decoded-length}
+use Rattle.image.specs.declared.Decoded.the-variants.{Good}
+use Rattle.image.specs.Image.{imageOf, decodeOf}
+use Rattle.image.proofs.Images.{settled-decode, decoded-length}
 use Rattle.mend.specs.Changes.{changedCount}
 use Rattle.mend.specs.Mend.{mendedState, timeBytes, changesIn}
 use Rattle.mend.proofs.Listing.{count-le, three-bytes-each, room-of-count}

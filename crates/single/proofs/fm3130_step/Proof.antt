@@ -7,9 +7,9 @@ use lib.ListN.{length}
 use borrow.Author.Needs.{needs}
 use Rattle.device.specs.Chip.{memorySize}
 use Rattle.device.proofs.Entry.{ready}
-use Rattle.rig.specs.declared.Decoded.the-variants.{Good}
-use Rattle.rig.specs.Image.{decodeOf}
-use Rattle.rig.proofs.Images.{settled-decode, image-decode, decoded-length}
+use Rattle.image.specs.declared.Decoded.the-variants.{Good}
+use Rattle.image.specs.Image.{decodeOf}
+use Rattle.image.proofs.Images.{settled-decode, image-decode, decoded-length}
 use Rattle.single.proofs.Ways.{single-wrong-memory, single-wrong-image, single-unknown-event, single-short, single-answered, front-set}
 use Rattle.single.proofs.fm3130_step.Statement.{statement}
 use Rattle.single.proofs.fm3130_step.Tie as tie

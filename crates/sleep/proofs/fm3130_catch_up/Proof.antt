@@ -3,9 +3,9 @@
 -- Assumes nothing.
 use mathlib.Core.Path.{_≡_, sym, _∙_}
 use denote.Ref.{now}
-use Rattle.rig.specs.declared.Decoded.the-variants.{Good}
-use Rattle.rig.specs.Image.{decodeOf}
-use Rattle.rig.proofs.Images.{settled-decode, decoded-length}
+use Rattle.image.specs.declared.Decoded.the-variants.{Good}
+use Rattle.image.specs.Image.{decodeOf}
+use Rattle.image.proofs.Images.{settled-decode, decoded-length}
 use Rattle.sleep.proofs.Ways.{catch-up-wrong-image, catch-up-too-many, catch-up-done}
 use borrow.Author.Needs.{needs}
 use Rattle.sleep.proofs.fm3130_catch_up.Statement.{statement}

@@ -8,7 +8,7 @@ use denote.Ref.{now}
 use lib.ListN.{length, length-replicate}
 use borrow.Author.Needs.{needs}
 use native.Mathlib.Omega.{arith}
-use Rattle.rig.proofs.Images.{settled-decode, image-decode}
+use Rattle.image.proofs.Images.{settled-decode, image-decode}
 use Rattle.contents.specs.Table.{eventsKind}
 use Rattle.contents.specs.Sections.{firstFaulty}
 use Rattle.contents.proofs.Finding.{inside}

@@ -4,7 +4,7 @@
 use mathlib.Core.Path.{_∙_}
 use borrow.Author.Needs.{needs}
 use borrow.Author.Tests.{eq-eqb, ne-eqb}
-use Rattle.rig.proofs.Images.{settled-decode}
+use Rattle.image.proofs.Images.{settled-decode}
 use Rattle.contents.specs.Table.{isAccepted}
 use Rattle.contents.proofs.faults.accepts.Statement.{statement}
 use Rattle.contents.proofs.faults.accepts.Tie as tie

@@ -8,10 +8,10 @@ use lib.ListN.{length}
 use borrow.Author.Needs.{needs}
 use borrow.Author.Tests.{not-true, not-false}
 use Rattle.device.specs.Chip.{memorySize}
-use Rattle.rig.specs.declared.Decoded.the-variants.{Good}
+use Rattle.image.specs.declared.Decoded.the-variants.{Good}
 use Rattle.rig.specs.Run.{allKnown}
-use Rattle.rig.specs.Image.{decodeOf}
-use Rattle.rig.proofs.Images.{settled-decode, image-decode, decoded-length}
+use Rattle.image.specs.Image.{decodeOf}
+use Rattle.image.proofs.Images.{settled-decode, image-decode, decoded-length}
 use Rattle.handheld.specs.declared.Standing.the-variants.{Known}
 use Rattle.handheld.specs.Bus.{mayCall, standingOf}
 use Rattle.handheld.proofs.Ways.{one-byte, call-wrong-memory, call-wrong-image, call-unknown, call-unknown-event}

@@ -6,10 +6,10 @@ use denote.Ref.{now}
 use lib.ListN.{length}
 use borrow.Author.Tests.{not-true, not-false}
 use Rattle.device.specs.Chip.{memorySize}
-use Rattle.rig.specs.declared.Decoded.the-variants.{Good}
+use Rattle.image.specs.declared.Decoded.the-variants.{Good}
 use Rattle.rig.specs.Run.{allKnown}
-use Rattle.rig.specs.Image.{decodeOf}
-use Rattle.rig.proofs.Images.{settled-decode, image-decode, decoded-length}
+use Rattle.image.specs.Image.{decodeOf}
+use Rattle.image.proofs.Images.{settled-decode, image-decode, decoded-length}
 use Rattle.proving.specs.Kept.{isKept}
 use Rattle.proving.proofs.Loop.{kept-length, wrong-memory, wrong-image, wrong-kept, unknown-event, short-answers, all-done}
 use borrow.Author.Needs.{needs}

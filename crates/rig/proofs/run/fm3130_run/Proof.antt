@@ -8,11 +8,11 @@ use lib.ListN.{length}
 use borrow.Author.Needs.{needs}
 use borrow.Author.Tests.{not-true, not-false}
 use Rattle.device.specs.Chip.{memorySize}
-use Rattle.rig.specs.declared.Decoded.the-variants.{Good}
+use Rattle.image.specs.declared.Decoded.the-variants.{Good}
 use Rattle.rig.specs.Run.{allKnown}
-use Rattle.rig.specs.Image.{decodeOf}
-use Rattle.rig.proofs.Images.{settled-decode, image-decode, decoded-length}
-use Rattle.rig.proofs.Accepts.{decoded-end}
+use Rattle.image.specs.Image.{decodeOf}
+use Rattle.image.proofs.Images.{settled-decode, image-decode, decoded-length}
+use Rattle.image.proofs.Accepts.{decoded-end}
 use Rattle.rig.proofs.Runs.{outcome-wrong-memory, outcome-wrong-image, outcome-unknown-event}
 use Rattle.rig.proofs.Runs.{outcome-short-answers, outcome-done}
 use Rattle.rig.proofs.run.fm3130_run.Statement.{statement}

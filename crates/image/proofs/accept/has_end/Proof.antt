@@ -1,0 +1,71 @@
+-- SPDX-License-Identifier: Apache-2.0
+-- The bytes of each word, and the last two, are those of every image.
+-- Assumes nothing.
+use native.Mathlib.Omega.{arith}
+use denote.Ref.{now}
+use borrow.Author.Needs.{needs}
+use Rattle.image.proofs.Accepts.{end-tested}
+use Rattle.image.proofs.accept.has_end.Statement.{statement}
+use Rattle.image.proofs.accept.has_end.Tie as tie
+
+word-requires : tie.Need-word-requires
+word-requires c κs = search needs
+
+word-requires-2 : tie.Need-word-requires-2
+word-requires-2 c κs = search needs
+
+word-requires-3 : tie.Need-word-requires-3
+word-requires-3 c κs = search needs
+
+word-requires-4 : tie.Need-word-requires-4
+word-requires-4 c κs = search needs
+
+word-requires-5 : tie.Need-word-requires-5
+word-requires-5 c κs = search needs
+
+word-requires-6 : tie.Need-word-requires-6
+word-requires-6 c κs = search needs
+
+word-requires-7 : tie.Need-word-requires-7
+word-requires-7 c κs = search needs
+
+word-requires-8 : tie.Need-word-requires-8
+word-requires-8 c κs = search needs
+
+shared-slice-read-result : tie.Need-shared-slice-read-result
+shared-slice-read-result c = search needs
+
+shared-slice-read-result-2 : tie.Need-shared-slice-read-result-2
+shared-slice-read-result-2 c = search needs
+
+returns : tie.Need-returns
+returns c =
+    let s = c .before .before .before .before .before .before .before .before .before .before .before in
+    let i = now (s .args .image) in
+    rw (
+      c .before .before .before .before .before .before .before .before .before .word .ensures,
+      c .before .before .before .before .before .before .before .before .word2 .ensures,
+      c .before .before .before .before .before .before .before .word3 .ensures,
+      c .before .before .before .before .before .before .word4 .ensures,
+      c .before .before .before .before .before .word5 .ensures,
+      c .before .before .before .before .word6 .ensures,
+      c .before .before .before .word7 .ensures,
+      c .before .before .word8 .ensures,
+    )
+    (end-tested i (λ k. omega (arith, c .shared-slice-known3 .given k)) (s .pre))
+
+pub has-end-spec : {M : Type 1} → statement M
+has-end-spec =
+    tie.close
+    (tie.spec
+    word-requires
+    word-requires-2
+    word-requires-3
+    word-requires-4
+    word-requires-5
+    word-requires-6
+    word-requires-7
+    word-requires-8
+    shared-slice-read-result
+    shared-slice-read-result-2
+    returns)

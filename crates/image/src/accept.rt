@@ -1,0 +1,142 @@
+// SPDX-License-Identifier: Apache-2.0
+// Whether an image is accepted, by tests of its bytes: no state is made of it, and nothing is written again to be
+// compared. Bytes 0 to 24 and 30 to 63 are tested four at a time, as a machine loads them.
+ghost use mathlib.Core.Path.{_≡_};
+ghost use mathlib.Core.List.{_++_};
+ghost use Prim.Native.Nat.{_≤_};
+ghost use lib.ListN.{length, drop};
+ghost use Rattle.frame.specs.Bytes.{sameBytes};
+ghost use Rattle.image.specs.Image.{imageSize};
+ghost use Rattle.image.specs.Accepting.{theEnd, wordAt, placesWithin, incomingWithin, transferWithin, busTested, isImage};
+use crate::LENGTH;
+use companion::map::LAST;
+use wire::slave::answers;
+use wire::slave::slave_names;
+
+// A byte as a wider number.
+fn wide(byte: u8) -> u32
+    ensures { λ r. ⌜ (r ≡ byte) × (r ≤ 255) ⌝ }
+{
+    byte as u32
+}
+
+// Four bytes from a place on as one number, low byte first: a machine loads it at once.
+fn word(image: &[u8], at: usize) -> u32
+    requires { ⌜ (at ≤ 60) × (length (now image) ≡ imageSize) ⌝ }
+    ensures { λ r. ⌜ r ≡ wordAt (now (image .entry)) at ⌝ }
+{
+    wide(image[at])
+        + wide(image[at + 1]) * 0x100
+        + wide(image[at + 2]) * 0x1_0000
+        + wide(image[at + 3]) * 0x100_0000
+}
+
+// Whether bytes 30 to 63 are those of every image: zeros, and the mark.
+fn has_end(image: &[u8]) -> bool
+    requires { ⌜ length (now image) ≡ imageSize ⌝ }
+    ensures { λ r. ⌜ r ≡ sameBytes (drop 30 (now (image .entry))) theEnd ⌝ }
+{
+    (word(image, 30) == 0)
+        & (word(image, 34) == 0)
+        & (word(image, 38) == 0)
+        & (word(image, 42) == 0)
+        & (word(image, 46) == 0)
+        & (word(image, 50) == 0)
+        & (word(image, 54) == 0)
+        & (word(image, 58) == 0x3100_0000)
+        & (image[62] == 0x30)
+        & (image[63] == 0x01)
+}
+
+// The limits of bytes 0 to 24, the registers, the core and the two addresses: each byte by its place in its word. The
+// tests are joined in the order of the definition that they meet.
+fn places_within(image: &[u8]) -> bool
+    requires { ⌜ length (now image) ≡ imageSize ⌝ }
+    ensures { λ r. ⌜ r ≡ placesWithin (now (image .entry)) ⌝ }
+{
+    let a = word(image, 0);
+    let b = word(image, 4);
+    let c = word(image, 8);
+    let d = word(image, 12);
+    let e = word(image, 16);
+    let f = word(image, 20);
+    (f / 0x100_0000 < 0x20)
+        & ((f / 0x1_0000 % 0x100 <= 14)
+            & ((a / 0x100 % 0x80 < 0x40)
+                & ((a / 0x1_0000 % 0x100 < 0x80)
+                    & (a / 0x100_0000 < 0x80)
+                    & (b % 0x100 < 0x40)
+                    & (b / 0x100 % 0x100 < 8)
+                    & (b / 0x1_0000 % 0x100 < 0x40)
+                    & (b / 0x100_0000 < 0x20))
+                & ((c / 0x100_0000 % 0x80 < 0x40) & (d % 0x80 < 0x40) & (d / 0x100 % 0x80 < 0x20)))
+            & ((d / 0x100_0000 < 0x80)
+                & (e % 0x100 < 0x80)
+                & (e / 0x100 % 0x100 < 0x40)
+                & (e / 0x1_0000 % 0x100 < 8)
+                & (e / 0x100_0000 < 0x40)
+                & (f % 0x100 < 0x20)))
+}
+
+// A byte that comes in, 0 to 8 of its clocks done: only their bits can be set; and one that waits for its acknowledge is
+// one that is acknowledged.
+fn incoming_within(number: u8, clocks: u8, byte: u8) -> bool
+    requires { ⌜ clocks ≤ 8 ⌝ }
+    ensures { λ r. ⌜ r ≡ incomingWithin number clocks byte ⌝ }
+{
+    if clocks < 8 {
+        return byte >> clocks == 0;
+    }
+    if number == 1 {
+        return answers(slave_names(byte));
+    }
+    if number == 4 {
+        return byte <= LAST;
+    }
+    true
+}
+
+// Bytes 26 to 29 while a transfer is under way.
+fn transfer_within(number: u8, clocks: u8, byte: u8, first: u8) -> bool
+    ensures { λ r. ⌜ r ≡ transferWithin number clocks byte first ⌝ }
+{
+    if (number > 8) | (clocks > 8) {
+        return false;
+    }
+    if (first != 0) & (number != 3) {
+        return false;
+    }
+    if number >= 7 {
+        return (clocks != 0) | (byte == 0);
+    }
+    incoming_within(number, clocks, byte)
+}
+
+// Bytes 25 to 29: some supplies and some phase write them, and that phase is within its limits under those supplies.
+fn bus_within(supplies: u8, number: u8, clocks: u8, byte: u8, first: u8) -> bool
+    ensures { λ r. ⌜ r ≡ busTested supplies number clocks byte first ⌝ }
+{
+    if number == 0 {
+        return (supplies <= 2) & ((clocks == 0) & (byte == 0) & (first == 0));
+    }
+    if supplies != 0 {
+        return false;
+    }
+    transfer_within(number, clocks, byte, first)
+}
+
+// Whether a well-formed state writes an image.
+pub fn is_image(image: &[u8]) -> bool
+    ensures { λ r. ⌜ r ≡ isImage (now (image .entry)) ⌝ }
+{
+    if image.len() != LENGTH {
+        return false;
+    }
+    if !has_end(image) {
+        return false;
+    }
+    if !places_within(image) {
+        return false;
+    }
+    bus_within(image[25], image[26], image[27], image[28], image[29])
+}

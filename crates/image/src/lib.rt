@@ -1,0 +1,25 @@
+// SPDX-License-Identifier: Apache-2.0
+// The image of a state, 64 bytes, both ways. An image is accepted exactly if a well-formed state writes it; what is read
+// is then the one state that could have written it.
+//
+// accept  whether an image is accepted, by tests of its bytes
+// read    the state in an image, and its parts
+// write   a state's image, whole or over another's
+use device::MEMORY_SIZE;
+use device::State;
+
+pub mod accept;
+pub mod read;
+pub mod write;
+
+// The bytes of an image.
+pub const LENGTH: usize = 64;
+
+// The bytes of memory, as a length.
+pub const MEMORY: usize = MEMORY_SIZE as usize;
+
+// What reading an image gives: the well-formed state that writes it, or none.
+pub enum Decoded {
+    Good(State),
+    Bad,
+}
