@@ -42,7 +42,7 @@ pkg_config = sed -e 's|@INCLUDE@|$(1)|' -e 's|@LIB@|$(2)|' -e 's|@VERSION@|$(VER
 SECONDS := 200
 
 .PHONY: help test check demo lib archives install host ctest second compare edits all-edits web web-test controller bench \
-	fuzz fmt fmt-check setup clean
+	counts fuzz fmt fmt-check setup clean
 
 help: ## list these targets
 	@awk -F':.*## ' '/^[a-z-]+:.*## / { printf "make %-10s %s\n", $$1, $$2 }' Makefile
@@ -145,6 +145,15 @@ bench: lib ## the proved list run timed beside plain programs; the tables also g
 	@tools/setup.sh bench
 	@mkdir -p build/bench
 	@cargo run --offline --release --quiet --package bench | tee build/bench/SPEED.md
+
+# The counts are those of x86-64; on another machine there is nothing to hold.
+counts: lib ## the proved archive's instructions, held to those that docs/SPEED.md stores
+ifeq ($(MACHINE),x86_64)
+	@tools/setup.sh bench
+	@cargo run --offline --release --quiet --package bench -- --hold docs/SPEED.md
+else
+	@echo "counts: docs/SPEED.md stores those of x86-64; this machine is $(MACHINE)"
+endif
 
 fuzz: lib ## chosen bytes at the archive's C boundary, three targets for SECONDS=200 each
 	@tools/setup.sh fuzz

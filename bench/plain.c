@@ -429,3 +429,70 @@ void plain_run(uint8_t *image, uint8_t *memory, const uint8_t *events, size_t co
     plain_events(&device, memory, events, count, answers);
     plain_write_image(&device, image);
 }
+
+/* ---- the same, with the tests that the proved program makes */
+
+/* Bits that are 0 in bytes 0 to 23 of every image. */
+static const uint8_t fixed_bits[24] = {0x00, 0x40, 0x80, 0x80, 0xC0, 0xF8, 0xC0, 0xE0, 0x00, 0x00, 0x00, 0x40,
+                                       0x40, 0x60, 0x00, 0x80, 0x80, 0xC0, 0xF8, 0xC0, 0xE0, 0x00, 0xF0, 0xE0};
+
+/* Bytes 30 to 63 of every image. */
+static const uint8_t image_end[34] = {[31] = 0x31, [32] = 0x30, [33] = 0x01};
+
+/* Whether eight bytes have one of the bits of eight others. */
+static int have_any(const uint8_t *bytes, const uint8_t *bits)
+{
+    uint64_t left, right;
+    memcpy(&left, bytes, sizeof left);
+    memcpy(&right, bits, sizeof right);
+    return (left & right) != 0;
+}
+
+/* Whether bytes 26 to 29 are those of a transfer under way. */
+static int is_transfer(uint8_t phase, uint8_t clocks, uint8_t byte, uint8_t first)
+{
+    if (phase > READ_COMPANION || clocks > 8 || (first && phase != ADDRESS_LOW))
+        return 0;
+    if (phase >= READ_MEMORY)
+        return clocks || !byte;
+    if (clocks < 8)
+        return byte >> clocks == 0;
+    if (phase == SLAVE)
+        return phase_after_slave_byte(byte) != IDLE;
+    return phase != POINTER || byte <= SETUP;
+}
+
+static int is_image(const uint8_t *image)
+{
+    if (have_any(image, fixed_bits) || have_any(&image[8], &fixed_bits[8]) || have_any(&image[16], &fixed_bits[16]))
+        return 0;
+    if (image[22] > SETUP || memcmp(&image[30], image_end, sizeof image_end))
+        return 0;
+    if (image[26] == IDLE)
+        return image[25] <= POWER_GONE && !(image[27] | image[28] | image[29]);
+    return image[25] == POWER_ON && is_transfer(image[26], image[27], image[28], image[29]);
+}
+
+/* Whether every event is one of the eight. */
+static int are_known(const uint8_t *events, size_t count)
+{
+    uint8_t bits = 0;
+    for (size_t i = 0; i < count; i++)
+        bits |= events[i];
+    return bits <= RETURNED;
+}
+
+unsigned plain_run_tested(uint8_t *image, size_t image_length, uint8_t *memory, size_t memory_length,
+                          const uint8_t *events, size_t count, uint8_t *answers, size_t room)
+{
+    if (memory_length != PLAIN_MEMORY)
+        return 1;
+    if (image_length != PLAIN_IMAGE || !is_image(image))
+        return 2;
+    if (!are_known(events, count))
+        return 3;
+    if (room < count)
+        return 4;
+    plain_run(image, memory, events, count, answers);
+    return 0;
+}

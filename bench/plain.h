@@ -34,4 +34,8 @@ void plain_events(struct plain_device *device, uint8_t *memory, const uint8_t *e
 /* The same from an image that is accepted, to the image that the events lead to. */
 void plain_run(uint8_t *image, uint8_t *memory, const uint8_t *events, size_t count, uint8_t *answers);
 
+/* The same from any image and any buffers, with the tests that the proved program makes: the number of 01's table. */
+unsigned plain_run_tested(uint8_t *image, size_t image_length, uint8_t *memory, size_t memory_length,
+                          const uint8_t *events, size_t count, uint8_t *answers, size_t room);
+
 #endif

@@ -3,15 +3,17 @@
 //!
 //!     bench                      all tables
 //!     bench --sleep              the table of catching up alone
-//!     bench --count LIST SIDE    one run, for valgrind to count
+//!     bench --hold FILE          the counts of the proved archive, held to those that the file stores (x86-64)
+//!     bench --count LIST SIDE    one run, for valgrind to count; --count-one EVENT SIDE: a call of one event
 //!
 //! * [`traffic`]: the lists of events.
 //! * [`sides`]: the programs; [`plain`] is the one in Rust that is written for speed.
-//! * [`timing`], [`counting`]: the clock, and instructions by valgrind.
+//! * [`timing`], [`counting`]: the clock, and instructions by valgrind; [`holding`] sees that no count grows.
 //! * [`sleeping`]: many ticks in one call; [`plain_sleep`] is the same work by a plain program, and [`sameness`] sees that it is.
 //! * [`report`]: the tables.
 
 mod counting;
+mod holding;
 mod plain;
 mod plain_sleep;
 mod report;
@@ -30,9 +32,11 @@ fn main() {
     match words.as_slice() {
         [] => print_tables(),
         [option] if option == "--sleep" => println!("{}", report::sleeps(&sleeping::all())),
+        [option, file] if option == "--hold" => hold(file),
         [option, list, side] if option == "--count" => run_for_valgrind(list, side),
+        [option, event, side] if option == "--count-one" => run_one_for_valgrind(event, side),
         _ => {
-            eprintln!("usage: bench [--sleep | --count LIST SIDE]");
+            eprintln!("usage: bench [--sleep | --hold FILE | --count LIST SIDE | --count-one EVENT SIDE]");
             std::process::exit(2);
         }
     }
@@ -44,6 +48,7 @@ fn print_tables() {
     for list in &lists {
         timing::check(&mut sides, list);
     }
+    sameness::check_runs(sameness::IMAGES);
     println!("{}", report::machine());
     for list in &lists {
         println!(
@@ -77,11 +82,32 @@ fn measure(sides: &mut [Box<dyn Side>], list: &Traffic) -> Vec<Finding> {
         .collect()
 }
 
-fn call_times(list: &Traffic) -> Vec<[f64; 2]> {
+fn call_times(list: &Traffic) -> Vec<[f64; 3]> {
     timing::CALL_LENGTHS
         .iter()
         .map(|length| timing::time_calls(list, *length))
         .collect()
+}
+
+/// Ends with status 1 where a count has grown, or is not stored.
+fn hold(file: &str) {
+    let document = std::fs::read_to_string(file).unwrap_or_else(|error| {
+        eprintln!("bench: {file}: {error}");
+        std::process::exit(2);
+    });
+    if !holding::hold(&document) {
+        eprintln!("bench: a count has grown by more than a twentieth, or is not stored in {file}");
+        std::process::exit(1);
+    }
+}
+
+fn run_one_for_valgrind(event: &str, side: &str) {
+    let mut sides = sides::all();
+    let side = sides.iter_mut().find(|each| each.name() == side);
+    match (event.parse(), side) {
+        (Ok(event), Some(side)) => counting::run_one_counted(side.as_mut(), event),
+        _ => panic!("there is no such event or side"),
+    }
 }
 
 fn run_for_valgrind(list: &str, side: &str) {

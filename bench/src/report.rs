@@ -70,17 +70,15 @@ pub fn speeds(findings: &[Finding]) -> String {
 }
 
 /// The cost of one call by the length of its list.
-pub fn calls(nanoseconds: &[[f64; 2]]) -> String {
+pub fn calls(nanoseconds: &[[f64; 3]]) -> String {
     let mut table = String::from(
-        "| events in the call | proved, ns a call | ns an event | plain.c, ns a call | ns an event |\n\
+        "| events in the call | proved, ns a call | plain.c with the same tests | proved / that | plain.c, nothing tested |\n\
          |---|---|---|---|---|\n",
     );
-    for (length, [proved, plain]) in CALL_LENGTHS.iter().zip(nanoseconds) {
-        let events = *length as f64;
+    for (length, [proved, tested, plain]) in CALL_LENGTHS.iter().zip(nanoseconds) {
         table += &format!(
-            "| {length} | {proved:.0} | {:.2} | {plain:.0} | {:.2} |\n",
-            proved / events,
-            plain / events
+            "| {length} | {proved:.1} | {tested:.1} | {:.2} | {plain:.1} |\n",
+            proved / tested
         );
     }
     table

@@ -1,11 +1,13 @@
 // SPDX-License-Identifier: Apache-2.0
-//! Sees that the plain program for catching up does what the proved entry does, on images of every kind: it refuses what
-//! the entry refuses, by the same number, and leaves the same bytes.
+//! Sees that the plain programs that test what they are given do what the proved entries do, on images of every kind: they
+//! refuse what the entries refuse, by the same numbers, and leave the same bytes.
 
 use crate::plain_sleep;
+use crate::sides::TestedC;
 use compare::archive;
 use second::calendar::{bcd_from_number, month_length};
 use second::generate::RandomSource;
+use second::MEMORY_BYTES;
 
 const IMAGE_BYTES: usize = 64;
 const MOST_TICKS: u64 = 31_622_400;
@@ -99,6 +101,39 @@ pub fn check(images: usize) -> (usize, usize) {
         }
     }
     (accepted, rung)
+}
+
+/// Tries so many images with a few events each, some of them none of the eight, on the list run and on plain.c with its
+/// tests. Returns how many were accepted.
+pub fn check_runs(images: usize) -> usize {
+    let mut source = RandomSource::new(25);
+    let mut memories = [vec![0x5A; MEMORY_BYTES], vec![0x5A; MEMORY_BYTES]];
+    let mut accepted = 0;
+    for _ in 0..images {
+        let mut image = random_image(&mut source).to_vec();
+        spoil(&mut source, &mut image);
+        let last = if source.below(8) == 0 { 9 } else { 8 };
+        let events: Vec<u8> = (0..source.below(24))
+            .map(|_| source.below(last) as u8)
+            .collect();
+        let room = events.len() - usize::from(!events.is_empty() && source.below(16) == 0);
+        let (mut proved, mut plain) = (image.clone(), image.clone());
+        let mut answers = [vec![0xEE; room], vec![0xEE; room]];
+        let ran = archive::run(&mut proved, &mut memories[0], &events, &mut answers[0]);
+        let number = TestedC::call(&mut plain, &mut memories[1], &events, &mut answers[1]);
+        assert_eq!(ran.number, u64::from(number), "{events:?} on {image:02X?}");
+        assert_eq!(proved, plain, "{events:?} on {image:02X?}");
+        assert_eq!(answers[0], answers[1], "{events:?} on {image:02X?}");
+        accepted += usize::from(number == 0);
+    }
+    assert_eq!(memories[0], memories[1]);
+    accepted
+}
+
+#[test]
+fn tested_c_refuses_and_leaves_what_the_list_run_does() {
+    let accepted = check_runs(IMAGES);
+    assert!(accepted > IMAGES / 10 && IMAGES - accepted > IMAGES / 10);
 }
 
 #[test]

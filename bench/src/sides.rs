@@ -77,6 +77,17 @@ mod foreign {
             count: usize,
             answers: *mut u8,
         );
+
+        pub fn plain_run_tested(
+            image: *mut u8,
+            image_length: usize,
+            memory: *mut u8,
+            memory_length: usize,
+            events: *const u8,
+            count: usize,
+            answers: *mut u8,
+            room: usize,
+        ) -> u32;
     }
 }
 
@@ -122,6 +133,51 @@ impl Side for PlainC {
 
     fn memory(&self) -> &[u8] {
         &self.memory
+    }
+}
+
+/// plain.c with the tests that the proved program makes of its buffers, its image and all events.
+pub struct TestedC(PlainC);
+
+impl TestedC {
+    pub fn new() -> TestedC {
+        TestedC(PlainC::new())
+    }
+
+    /// The number of 01's table.
+    pub fn call(image: &mut [u8], memory: &mut [u8], events: &[u8], answers: &mut [u8]) -> u32 {
+        // SAFETY: each buffer is handed over with its length, and plain.c reads and writes inside them.
+        unsafe {
+            foreign::plain_run_tested(
+                image.as_mut_ptr(),
+                image.len(),
+                memory.as_mut_ptr(),
+                memory.len(),
+                events.as_ptr(),
+                events.len(),
+                answers.as_mut_ptr(),
+                answers.len(),
+            )
+        }
+    }
+}
+
+impl Side for TestedC {
+    fn name(&self) -> &'static str {
+        "tested-c"
+    }
+
+    fn reset(&mut self, memory: &[u8]) {
+        self.0.reset(memory);
+    }
+
+    fn run(&mut self, events: &[u8], answers: &mut [u8]) {
+        let number = TestedC::call(&mut self.0.image, &mut self.0.memory, events, answers);
+        assert_eq!(number, 0);
+    }
+
+    fn memory(&self) -> &[u8] {
+        self.0.memory()
     }
 }
 

@@ -1,7 +1,7 @@
 // SPDX-License-Identifier: Apache-2.0
 //! The clock: all sides in one process, in alternating rounds; of each side the fastest round counts.
 
-use crate::sides::{PlainC, Proved, Side};
+use crate::sides::{PlainC, Proved, Side, TestedC};
 use crate::traffic::Traffic;
 use second::generate::fill_memory;
 use second::MEMORY_BYTES;
@@ -64,12 +64,17 @@ fn time_once(side: &mut dyn Side, events: &[u8], answers: &mut [u8]) -> f64 {
     began.elapsed().as_nanos() as f64
 }
 
-/// Nanoseconds a call of the proved program and of plain.c, for lists of so many events each.
-pub fn time_calls(traffic: &Traffic, length: usize) -> [f64; 2] {
+/// Nanoseconds a call of the proved program, of plain.c with the same tests, and of plain.c without any, for lists of so
+/// many events each.
+pub fn time_calls(traffic: &Traffic, length: usize) -> [f64; 3] {
     let memory = memory_of(traffic);
-    let mut sides: [Box<dyn Side>; 2] = [Box::new(Proved::new()), Box::new(PlainC::new())];
+    let mut sides: [Box<dyn Side>; 3] = [
+        Box::new(Proved::new()),
+        Box::new(TestedC::new()),
+        Box::new(PlainC::new()),
+    ];
     let mut answers = vec![0; length];
-    let mut fastest = [f64::INFINITY; 2];
+    let mut fastest = [f64::INFINITY; 3];
     let calls = (traffic.events.len() / length) as f64;
     for _ in 0..ROUNDS {
         for (side, best) in sides.iter_mut().zip(&mut fastest) {

@@ -11,10 +11,9 @@ use device::numbers::SHORT_ANSWERS;
 use device::numbers::UNKNOWN_EVENT;
 use device::numbers::WRONG_MEMORY;
 use device::numbers::WRONG_STATE;
-use image::Decoded;
 use image::MEMORY;
-use image::read::decode;
-use image::write::write_image;
+use image::accept::is_image;
+use resident::event::tell;
 
 // The bytes that are told of an event: its answer byte, and the number of the field.
 pub const TOLD: usize = 2;
@@ -49,20 +48,18 @@ pub extern "C" fn fm3130_step(
     if memory.len() != MEMORY {
         return WRONG_MEMORY as u64;
     }
-    let Decoded::Good(state) = decode(image) else {
+    if !is_image(image) {
         return WRONG_STATE as u64;
-    };
+    }
     if event > 7 {
         return UNKNOWN_EVENT as u64;
     }
     if told.len() < TOLD {
         return SHORT_ANSWERS as u64;
     }
-    let done = state.tell(memory, event as u8);
-    let next = done.state;
+    let done = tell(image, memory, event as u8);
     let rolled = done.rolled;
     told[0] = done.answer;
     told[1] = rolled_number(rolled);
-    write_image(next, image);
     ACCEPTED as u64
 }
