@@ -10,7 +10,9 @@
 use calendar::Rolled;
 
 pub mod event;
-mod send;
+mod receive;
+mod registers;
+pub mod send;
 pub mod tick;
 
 // What an event tells: its answer byte, and the highest field of the calendar that changed.
