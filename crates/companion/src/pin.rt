@@ -2,7 +2,7 @@
 // What the registers show outside: the ACS pin, and which memory is protected.
 ghost use mathlib.Core.Path.{_≡_};
 ghost use Prim.Native.Nat.{_≤_};
-ghost use Rattle.companion.specs.Pin.{functionOf, pinBy, pinOf, guardOf};
+ghost use Rattle.companion.specs.Pin.{pinBy, pinOf, guardOf};
 use crate::Companion;
 use crate::map::AEN;
 use crate::map::AF;
@@ -10,7 +10,6 @@ use crate::map::ALSW;
 use crate::map::CAL;
 use crate::map::WP0;
 use weights::has;
-use weights::only;
 
 // The functions of the pin.
 const RELEASED: u8 = 0;
@@ -21,9 +20,9 @@ const SQUARE: u8 = 2;
 
 const CALIBRATION: u8 = 3;
 
-// The function that 00h and 0Eh choose.
-fn function_of(control: u8, setup: u8) -> u8
-    ensures { λ r. ⌜ (r ≡ functionOf control setup) × (r ≤ 3) ⌝ }
+// Bits 3 to 1 of an answer as a number, by 00h and 0Eh: the function, and 4 more where it is alarm and AF is 1.
+pub fn pin_by(control: u8, setup: u8) -> u8
+    ensures { λ r. ⌜ (r ≡ pinBy control setup) × (r ≤ 7) ⌝ }
 {
     if has(control, CAL) {
         return CALIBRATION;
@@ -31,18 +30,13 @@ fn function_of(control: u8, setup: u8) -> u8
     if !has(setup, ALSW) {
         return SQUARE;
     }
-    if has(control, AEN) {
-        return ALARM;
+    if !has(control, AEN) {
+        return RELEASED;
     }
-    RELEASED
-}
-
-// Bits 3 to 1 of an answer as a number, by 00h and 0Eh: the function, and 4 more where it is alarm and AF is 1.
-pub fn pin_by(control: u8, setup: u8) -> u8
-    ensures { λ r. ⌜ (r ≡ pinBy control setup) × (r ≤ 7) ⌝ }
-{
-    let function = function_of(control, setup);
-    function + only((function == ALARM) & has(control, AF), 4)
+    if has(control, AF) {
+        return ALARM + 4;
+    }
+    ALARM
 }
 
 impl Companion {
