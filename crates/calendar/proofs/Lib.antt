@@ -5,6 +5,7 @@ pub mod Table
 pub mod Field
 pub mod Step
 pub mod Month
+pub mod Digits
 pub mod Valid
 pub mod Tick
 pub mod Instant

@@ -1,10 +1,9 @@
 -- SPDX-License-Identifier: Apache-2.0
 -- A valid calendar, as a test and as the limits of its seven fields: the two say the same.
 -- Assumes nothing.
-use mathlib.Core.Path.{_≡_}
-use mathlib.Core.Bool.{Bool, _&&_}
+use mathlib.Core.Path.{_≡_, sym}
+use mathlib.Core.Bool.{Bool, true, false, _&&_, and-true, and-false}
 use mathlib.Core.List.{List, [], _∷_}
-use Prim.Native.Nat.{ℕ}
 use lib.Dec.{T}
 use Rattle.calendar.specs.Field.{inField}
 use Rattle.calendar.specs.Next.{isValid, lengthOf}
@@ -55,17 +54,35 @@ valid-test c v =
     also in-field-test 0 99 (c .year) (v .year)
     also none)
 
--- the seven tests, as they come one by one, are the whole
-pub valid-of-tests :
-    (c : Calendar) {length : ℕ} {seconds minutes hours day date month year : Bool}
-    → length ≡ lengthOf c
-    → seconds ≡ inField 0 59 (c .seconds)
-    → minutes ≡ inField 0 59 (c .minutes)
-    → hours ≡ inField 0 23 (c .hours)
-    → day ≡ inField 1 7 (c .day)
-    → date ≡ inField 1 length (c .date)
-    → month ≡ inField 1 12 (c .month)
-    → year ≡ inField 0 99 (c .year)
-    → seconds && minutes && hours && day && date && month && year ≡ isValid c
-unfolding isValid
-valid-of-tests c e f g h i j k l = cc
+-- the tests as they come one by one, the date and the month last
+module _ (c : Calendar) where
+  pub wrong-seconds : inField 0 59 (c .seconds) ≡ false → false ≡ isValid c
+  unfolding isValid
+  wrong-seconds s = rw s
+
+  module _ (s : inField 0 59 (c .seconds) ≡ true) where
+    pub wrong-minutes : inField 0 59 (c .minutes) ≡ false → false ≡ isValid c
+    unfolding isValid
+    wrong-minutes m = rw (s, m)
+
+    module _ (m : inField 0 59 (c .minutes) ≡ true) where
+      pub wrong-hours : inField 0 23 (c .hours) ≡ false → false ≡ isValid c
+      unfolding isValid
+      wrong-hours h = rw (s, m, h)
+
+      module _ (h : inField 0 23 (c .hours) ≡ true) where
+        pub wrong-day : inField 1 7 (c .day) ≡ false → false ≡ isValid c
+        unfolding isValid
+        wrong-day d = rw (s, m, h, d)
+
+        module _ (d : inField 1 7 (c .day) ≡ true) where
+          pub wrong-year : inField 0 99 (c .year) ≡ false → false ≡ isValid c
+          unfolding isValid
+          wrong-year y =
+              rw (s, m, h, d, y) (sym (and-false (inField 1 (lengthOf c) (c .date) && inField 1 12 (c .month))))
+
+          pub right-but-date : inField 0 99 (c .year) ≡ true
+              → (inField 1 (lengthOf c) (c .date) && inField 1 12 (c .month)) ≡ isValid c
+          unfolding isValid
+          right-but-date y =
+              rw (s, m, h, d, y) (sym (and-true (inField 1 (lengthOf c) (c .date) && inField 1 12 (c .month))))

@@ -1,7 +1,7 @@
 // SPDX-License-Identifier: Apache-2.0
 // One field of the calendar: a byte of two decimal digits, between a least and a greatest number.
 ghost use mathlib.Core.Path.{_≡_};
-ghost use Prim.Native.Nat.{_<_};
+ghost use Prim.Native.Nat.{_%_, _<_};
 ghost use lib.Dec.{T};
 ghost use Rattle.calendar.specs.Field.{value, bcd, inField, stepOf};
 ghost use Rattle.calendar.specs.Mend.{mendedField, clippedDate};
@@ -25,6 +25,22 @@ pub(crate) fn in_field(byte: u8, low: u8, top: u8) -> bool
 {
     let number = value(byte);
     (byte % 16 < 10) & (low <= number) & (number <= top)
+}
+
+// Whether a byte is two decimal digits that stand for at most what a top stands for: of two bytes of digits the greater
+// stands for the greater number.
+pub(crate) fn digits_to(byte: u8, top: u8) -> bool
+    requires { ⌜ top % 16 < 10 ⌝ }
+    ensures { λ r. ⌜ r ≡ inField 0 (value top) byte ⌝ }
+{
+    (byte % 16 < 10) & (byte <= top)
+}
+
+// Whether a byte is a day of the week, 1 to 7: one digit, which is its own number.
+pub(crate) fn is_day(byte: u8) -> bool
+    ensures { λ r. ⌜ r ≡ inField 1 7 byte ⌝ }
+{
+    (byte != 0) & (byte <= 7)
 }
 
 // A field after a carry or none: as it was, back at `low` with a carry on, or one up. Where the low digit is 9 it

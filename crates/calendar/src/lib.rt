@@ -2,7 +2,7 @@
 // The calendar core: seven bytes by value, and the tick that takes a valid calendar to the next second.
 //
 //   fields.rt   one field of two decimal digits: its number, its limits, its step with a carry, and put right
-//   months.rt   how many days a month has
+//   months.rt   how many days a month has, and its last date
 //   carries.rt  the highest field that took a carry
 //   lib.rt      the calendar: the carry goes from field to field
 ghost use mathlib.Core.Path.{_≡_};
@@ -13,14 +13,16 @@ ghost use Rattle.calendar.specs.Mend.{rangedOf, mendedOf};
 
 mod carries;
 mod fields;
-mod months;
+pub mod months;
 
 use crate::carries::highest;
 use crate::fields::clipped_date;
-use crate::fields::in_field;
+use crate::fields::digits_to;
+use crate::fields::is_day;
 use crate::fields::mended_field;
 use crate::fields::step;
 use crate::fields::value;
+use crate::months::last_date;
 use crate::months::month_length;
 
 // Date and time as registers 02h to 08h hold them: two decimal digits a byte, the day of the week plain.
@@ -72,17 +74,27 @@ impl Calendar {
         month_length(value(self.month), value(self.year))
     }
 
-    // Whether the calendar is a date and a time that exist.
+    // Whether the calendar is a date and a time that exist: by its digits, so that no number is made of them. A byte that
+    // is no month has no last date, so no date is within it.
     pub fn is_valid(self) -> bool
         ensures { λ r. ⌜ r ≡ isValid self ⌝ }
     {
-        in_field(self.seconds, 0, 59)
-            & in_field(self.minutes, 0, 59)
-            & in_field(self.hours, 0, 23)
-            & in_field(self.day, 1, 7)
-            & in_field(self.date, 1, self.length())
-            & in_field(self.month, 1, 12)
-            & in_field(self.year, 0, 99)
+        if !digits_to(self.seconds, 0x59) {
+            return false;
+        }
+        if !digits_to(self.minutes, 0x59) {
+            return false;
+        }
+        if !digits_to(self.hours, 0x23) {
+            return false;
+        }
+        if !is_day(self.day) {
+            return false;
+        }
+        if !digits_to(self.year, 0x99) {
+            return false;
+        }
+        (self.date != 0) & digits_to(self.date, last_date(self.month, self.year))
     }
 
     // The next second of a valid calendar. Each field takes the carry of the one below it; the hours carry at
