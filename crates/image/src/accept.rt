@@ -1,6 +1,6 @@
 // SPDX-License-Identifier: Apache-2.0
 // Whether an image is accepted, by tests of its bytes: no state is made of it, and nothing is written again to be
-// compared. Bytes 0 to 24 and 30 to 63 are tested four at a time, as a machine loads them.
+// compared. Most bytes are tested four at a time, as a machine loads them.
 ghost use mathlib.Core.Path.{_≡_};
 ghost use mathlib.Core.List.{_++_};
 ghost use Prim.Native.Nat.{_≤_};
@@ -31,7 +31,8 @@ fn word(image: &[u8], at: usize) -> u32
         + wide(image[at + 3]) * 0x100_0000
 }
 
-// Whether bytes 30 to 63 are those of every image: zeros, and the mark.
+// Whether bytes 30 to 63 are those of every image: zeros, and the mark, which ends the last word. Bytes 56 and 57 lie in two
+// words.
 fn has_end(image: &[u8]) -> bool
     requires { ⌜ length (now image) ≡ imageSize ⌝ }
     ensures { λ r. ⌜ r ≡ sameBytes (drop 30 (now (image .entry))) theEnd ⌝ }
@@ -43,39 +44,40 @@ fn has_end(image: &[u8]) -> bool
         & (word(image, 46) == 0)
         & (word(image, 50) == 0)
         & (word(image, 54) == 0)
-        & (word(image, 58) == 0x3100_0000)
-        & (image[62] == 0x30)
-        & (image[63] == 0x01)
+        & (word(image, 56) == 0)
+        & (word(image, 60) == 0x0130_3100)
 }
 
-// The limits of bytes 0 to 24, the registers, the core and the two addresses: each byte by its place in its word. The
-// tests are joined in the order of the definition that they meet.
+// The limits of bytes 0 to 24, the registers, the core and the two addresses: each byte by its place in its word. The words
+// begin where the time does, in the registers and in the core, so their tests are alike. The tests are joined in the order of
+// the definition that they meet.
 fn places_within(image: &[u8]) -> bool
     requires { ⌜ length (now image) ≡ imageSize ⌝ }
     ensures { λ r. ⌜ r ≡ placesWithin (now (image .entry)) ⌝ }
 {
-    let a = word(image, 0);
-    let b = word(image, 4);
-    let c = word(image, 8);
-    let d = word(image, 12);
-    let e = word(image, 16);
-    let f = word(image, 20);
-    (f / 0x100_0000 < 0x20)
-        & ((f / 0x1_0000 % 0x100 <= 14)
-            & ((a / 0x100 % 0x80 < 0x40)
-                & ((a / 0x1_0000 % 0x100 < 0x80)
-                    & (a / 0x100_0000 < 0x80)
-                    & (b % 0x100 < 0x40)
-                    & (b / 0x100 % 0x100 < 8)
-                    & (b / 0x1_0000 % 0x100 < 0x40)
-                    & (b / 0x100_0000 < 0x20))
-                & ((c / 0x100_0000 % 0x80 < 0x40) & (d % 0x80 < 0x40) & (d / 0x100 % 0x80 < 0x20)))
-            & ((d / 0x100_0000 < 0x80)
-                & (e % 0x100 < 0x80)
-                & (e / 0x100 % 0x100 < 0x40)
-                & (e / 0x1_0000 % 0x100 < 8)
-                & (e / 0x100_0000 < 0x40)
-                & (f % 0x100 < 0x20)))
+    let time = word(image, 2);
+    let date = word(image, 6);
+    let alarm = word(image, 10);
+    let core_time = word(image, 15);
+    let core_date = word(image, 19);
+    (image[23] < 0x20)
+        & ((image[22] <= 14)
+            & ((image[1] % 0x80 < 0x40)
+                & ((time % 0x100 < 0x80)
+                    & (time / 0x100 % 0x100 < 0x80)
+                    & (time / 0x1_0000 % 0x100 < 0x40)
+                    & (time / 0x100_0000 < 8)
+                    & (date % 0x100 < 0x40)
+                    & (date / 0x100 % 0x100 < 0x20))
+                & ((alarm / 0x100 % 0x80 < 0x40)
+                    & (alarm / 0x1_0000 % 0x80 < 0x40)
+                    & (alarm / 0x100_0000 % 0x80 < 0x20)))
+            & ((core_time % 0x100 < 0x80)
+                & (core_time / 0x100 % 0x100 < 0x80)
+                & (core_time / 0x1_0000 % 0x100 < 0x40)
+                & (core_time / 0x100_0000 < 8)
+                & (core_date % 0x100 < 0x40)
+                & (core_date / 0x100 % 0x100 < 0x20)))
 }
 
 // A byte that comes in, 0 to 8 of its clocks done: only their bits can be set; and one that waits for its acknowledge is

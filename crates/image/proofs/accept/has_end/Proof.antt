@@ -1,5 +1,5 @@
 -- SPDX-License-Identifier: Apache-2.0
--- The bytes of each word, and the last two, are those of every image.
+-- The bytes of each word are those of every image.
 -- Assumes nothing.
 use native.Mathlib.Omega.{arith}
 use denote.Ref.{now}
@@ -32,27 +32,25 @@ word-requires-7 c κs = search needs
 word-requires-8 : tie.Need-word-requires-8
 word-requires-8 c κs = search needs
 
-shared-slice-read-result : tie.Need-shared-slice-read-result
-shared-slice-read-result c = search needs
-
-shared-slice-read-result-2 : tie.Need-shared-slice-read-result-2
-shared-slice-read-result-2 c = search needs
+word-requires-9 : tie.Need-word-requires-9
+word-requires-9 c κs = search needs
 
 returns : tie.Need-returns
 returns c =
-    let s = c .before .before .before .before .before .before .before .before .before .before .before in
-    let i = now (s .args .image) in
+    let k = c .before .before .before .before .before .before .before .before .before in
+    let i = now (k .before .args .image) in
     rw (
-      c .before .before .before .before .before .before .before .before .before .word .ensures,
-      c .before .before .before .before .before .before .before .before .word2 .ensures,
-      c .before .before .before .before .before .before .before .word3 .ensures,
-      c .before .before .before .before .before .before .word4 .ensures,
-      c .before .before .before .before .before .word5 .ensures,
-      c .before .before .before .before .word6 .ensures,
-      c .before .before .before .word7 .ensures,
-      c .before .before .word8 .ensures,
+      c .before .before .before .before .before .before .before .before .word .ensures,
+      c .before .before .before .before .before .before .before .word2 .ensures,
+      c .before .before .before .before .before .before .word3 .ensures,
+      c .before .before .before .before .before .word4 .ensures,
+      c .before .before .before .before .word5 .ensures,
+      c .before .before .before .word6 .ensures,
+      c .before .before .word7 .ensures,
+      c .before .word8 .ensures,
+      c .word9 .ensures,
     )
-    (end-tested i (λ k. omega (arith, c .shared-slice-known3 .given k)) (s .pre))
+    (end-tested i (λ n. omega (arith, k .shared-slice-known .given n)) (k .before .pre))
 
 pub has-end-spec : {M : Type 1} → statement M
 has-end-spec =
@@ -66,6 +64,5 @@ has-end-spec =
     word-requires-6
     word-requires-7
     word-requires-8
-    shared-slice-read-result
-    shared-slice-read-result-2
+    word-requires-9
     returns)
