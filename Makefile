@@ -2,12 +2,14 @@
 # The stand-in's commands. `make help` lists them; `make test` is the whole test.
 #
 # rt works in target/, which `rt ci` removes whole; everything else is built in build/.
-# rt proves as many crates at a time as there are processors, at most four; RT_JOBS=1 makes it one.
+# tools/jobs.sh says how many crates and edits rt has under way at a time; RT_JOBS=1 makes it one.
 
 SHELL := bash
 .SHELLFLAGS := -euo pipefail -c
 .DEFAULT_GOAL := help
 .NOTPARALLEL:
+
+export RT_JOBS := $(shell tools/jobs.sh)
 
 # The crates that export functions to C, each an object of its own in libfm3130.a: build/native for this machine,
 # build/official for x86-64.
