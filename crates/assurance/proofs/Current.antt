@@ -17,7 +17,7 @@ use Rattle.companion.specs.Part.{pinOf, lostOf}
 use Rattle.device.specs.Power.{fresh}
 use Rattle.device.specs.Event.{happening, eventOn}
 use Rattle.rig.specs.Run.{runOf, allKnown}
-use Rattle.master.specs.Events.{written, writeEvents}
+use Rattle.clocks.specs.Events.{written, writeEvents}
 use Rattle.handheld.specs.declared.Master.the-variants.{Rig}
 use Rattle.assurance.specs.Same.{Alongside, ReadsIn}
 use Rattle.assurance.specs.Current.{setRead, currentRead, lentBytes, silent, aimed, NoAssurance}

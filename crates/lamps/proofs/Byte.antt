@@ -30,7 +30,7 @@ use Rattle.device.specs.Chip.{fm3130}
 use Rattle.device.specs.Event.{Happening, onWire, second, lost, gone, returned, happening, eventOn}
 use Rattle.device.specs.Answer.{answerByte, pinShown}
 use Rattle.device.specs.declared.State.{State}
-use Rattle.transfers.specs.Clocks.{isHigh}
+use Rattle.clocks.specs.Clocks.{isHigh}
 use Rattle.lamps.specs.History.{Moment, History, happened, left}
 use Rattle.lamps.specs.Log.{clocksOf, dueOf, refusedBy, refusedIn, pulls, isClock, clocksIn, byteShown, gaveWhat, addressAt, gaveAt, ninth, markFrom, markOf}
 use Rattle.lamps.specs.Step.{following, atRest, refusing, gatheredAt, gathered, followed, pullsOf, clocksBy, dueBy, markBy}

@@ -19,7 +19,7 @@ use Rattle.bus.specs.declared.Power.the-variants.{On, Backup, Off}
 use Rattle.device.specs.Event.{Happening, onWire, second, lost, gone, returned, happening}
 use Rattle.device.specs.declared.State.{State}
 use Rattle.device.specs.declared.Answered.{Answered}
-use Rattle.transfers.specs.Clocks.{isHigh}
+use Rattle.clocks.specs.Clocks.{isHigh}
 use Rattle.lamps.specs.Log.{clocksOf, dueOf, markFrom}
 use Rattle.lamps.specs.Lit.{lampAddress}
 use Rattle.lamps.specs.declared.Mark.{Mark}

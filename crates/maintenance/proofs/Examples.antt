@@ -14,7 +14,7 @@ use Rattle.wire.specs.Machine.{clocked, lined}
 use Rattle.companion.specs.Part.{pinOf, lostOf}
 use Rattle.device.specs.Event.{happening, eventOn}
 use Rattle.device.specs.Power.{fresh}
-use Rattle.master.specs.Events.{readEvents}
+use Rattle.clocks.specs.Events.{readEvents}
 use Rattle.lamps.specs.Log.{refusedIn, clocksIn}
 use Rattle.lamps.specs.Lit.{readIn, litFrom}
 use Rattle.lamps.specs.Step.{lampsByte}

@@ -9,7 +9,7 @@ use mathlib.Core.Path.{_≡_}
 use mathlib.Core.Bool.{true}
 use mathlib.Core.List.{List, [], _∷_, _++_}
 use Rattle.device.specs.Power.{fresh}
-use Rattle.master.specs.Events.{written, asked, opening, readEvents}
+use Rattle.clocks.specs.Events.{written, asked, opening, readEvents}
 use Rattle.maintenance.specs.Maintenance.{reported}
 
 abbrev pub provingRead : List ℕ

@@ -1,4 +1,4 @@
 -- SPDX-License-Identifier: Apache-2.0
-pub mod Laying
+pub mod Listing
 pub mod Ways
 pub mod Unique

@@ -3,16 +3,15 @@
 -- of what went in.
 -- Assumes nothing.
 use Prim.Native.Nat.{ℕ}
-use mathlib.Core.Path.{_≡_}
+use mathlib.Core.Path.{_≡_, sym, _∙_}
 use mathlib.Core.List.{List}
-use Rattle.image.proofs.Unique.{unique}
 use Rattle.master.specs.Outcome.{Outcome, outcomeWith}
 use Rattle.master.specs.Outcome.{WriteEventsSettled, ReadEventsSettled, WriteToldSettled, ReadToldSettled}
 use Rattle.master.specs.declared.Filled.{Filled}
 
 -- number, count and buffer
 same : {r r₂ : Filled} {e e₂ : List ℕ} {o : Outcome} → outcomeWith r e ≡ o → outcomeWith r₂ e₂ ≡ o → (r ≡ r₂) × (e ≡ e₂)
-same p q = let z = unique p q in (λ k. record { number = z k .number; count = z k .count }, λ k. z k .buffer)
+same p q = let z = p ∙ sym q in (λ k. record { number = z k .number; count = z k .count }, λ k. z k .buffer)
 
 pub write-events-unique : (a : ℕ) (bs e : List ℕ) (r r₂ : Filled) (e′ e₂ : List ℕ)
     → WriteEventsSettled a bs e r e′ → WriteEventsSettled a bs e r₂ e₂ → (r ≡ r₂) × (e′ ≡ e₂)

@@ -10,13 +10,14 @@ use lib.ListN.{length, drop}
 use lib.Seq.{sets}
 use borrow.Author.Tests.{le-leb, lt-leb, lt-ltb, le-ltb, eq-eqb, ne-eqb}
 use Rattle.device.specs.Chip.{memorySize}
-use Rattle.transfers.specs.Clocks.{linesOf}
+use Rattle.clocks.specs.Clocks.{linesOf}
 use Rattle.master.specs.Numbers.{accepted, tooMany, readOfNone, wrongAddress, littleRoom, wrongAnswers, most}
-use Rattle.master.specs.Events.{written, opening, asked, askedOn, allAsked, writeEvents, readEvents, writeCount, readCount}
+use Rattle.clocks.specs.Events.{written, opening, asked, askedOn, allAsked, writeEvents, readEvents, writeCount, readCount}
 use Rattle.master.specs.Told.{isOpenRead, listOf, flagAt, byteAt, bytesOf}
-use Rattle.master.specs.Laid.{Laid}
+use Rattle.clocks.specs.Laid.{Laid}
 use Rattle.master.specs.Outcome.{Outcome, refused, filled, writeEventsOf, readEventsOf, writeToldOf, readToldOf}
-use Rattle.master.proofs.Laying.{front, write-count, read-count, length-listOf}
+use Rattle.clocks.proofs.Laying.{front, write-count, read-count}
+use Rattle.master.proofs.Listing.{length-listOf}
 
 -- what was laid from the front on is what the buffer is filled with
 laid-filled : (e xs e′ : List ℕ) (r : ℕ) → length xs ≤ length e → Laid e 0 xs r e′

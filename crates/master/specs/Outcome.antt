@@ -13,9 +13,9 @@ use mathlib.Core.List.{List, _++_}
 use lib.Dec.{eqb, leb, ltb}
 use lib.ListN.{length, drop}
 use Rattle.device.specs.Chip.{memorySize}
-use Rattle.transfers.specs.Clocks.{linesOf}
+use Rattle.clocks.specs.Clocks.{linesOf}
 use Rattle.master.specs.Numbers.{accepted, tooMany, readOfNone, wrongAddress, littleRoom, wrongAnswers, most}
-use Rattle.master.specs.Events.{writeEvents, readEvents, writeCount, readCount}
+use Rattle.clocks.specs.Events.{writeEvents, readEvents, writeCount, readCount}
 use Rattle.master.specs.Told.{flagsOf, bytesOf}
 use Rattle.master.specs.declared.Filled.{Filled}
 

@@ -3,15 +3,6 @@
 // written; or laid at the front of the lent buffer, whose other bytes stay.
 ghost use Rattle.master.specs.Outcome.{WriteEventsSettled, ReadEventsSettled};
 use crate::Filled;
-use crate::lay::LEFT_HIGH;
-use crate::lay::READ_MEMORY;
-use crate::lay::START;
-use crate::lay::STOP;
-use crate::lay::lay_asked;
-use crate::lay::lay_byte;
-use crate::lay::lay_event;
-use crate::lay::lay_opening;
-use crate::lay::lay_written;
 use crate::numbers::LITTLE_ROOM;
 use crate::numbers::MOST;
 use crate::numbers::READ_OF_NONE;
@@ -21,6 +12,15 @@ use crate::numbers::filled;
 use crate::numbers::read_count;
 use crate::numbers::refuse;
 use crate::numbers::write_count;
+use clocks::lay::LEFT_HIGH;
+use clocks::lay::READ_MEMORY;
+use clocks::lay::START;
+use clocks::lay::STOP;
+use clocks::lay::lay_asked;
+use clocks::lay::lay_byte;
+use clocks::lay::lay_event;
+use clocks::lay::lay_opening;
+use clocks::lay::lay_written;
 use device::MEMORY_SIZE;
 
 // The events of a write of bytes from an address on. A write of none sets the address.

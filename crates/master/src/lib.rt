@@ -3,11 +3,9 @@
 // gives addresses and bytes and needs to know no clock.
 //
 // numbers  the master's own numbers, and how many events its transactions have
-// lay      events laid into a lent buffer, one after another
 // events   the events of a write and of a read
 // told     what the answers to them say
 pub mod events;
-mod lay;
 pub mod numbers;
 pub mod told;
 

@@ -3,7 +3,7 @@
 ghost use mathlib.Core.Path.{_≡_};
 ghost use Prim.Native.Nat.{_≤_};
 ghost use Rattle.master.specs.Numbers.{accepted, most};
-ghost use Rattle.master.specs.Events.{writeCount, readCount};
+ghost use Rattle.clocks.specs.Events.{writeCount, readCount};
 use crate::Filled;
 
 pub const ACCEPTED: u64 = 0;

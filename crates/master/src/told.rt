@@ -6,7 +6,7 @@ ghost use Prim.Native.Nat.{_+_, _*_, _<_, _≤_};
 ghost use lib.ListN.{length};
 ghost use lib.Seq.{sets};
 ghost use Rattle.wire.specs.Bits.{pushed};
-ghost use Rattle.transfers.specs.Clocks.{linesOf};
+ghost use Rattle.clocks.specs.Clocks.{linesOf};
 ghost use Rattle.master.specs.Told.{lineAt, isLow, byteFrom, isOpen, isOpenRead, flagAt, byteAt, listOf};
 ghost use Rattle.master.specs.Outcome.{WriteToldSettled, ReadToldSettled};
 use crate::Filled;

@@ -17,13 +17,13 @@ use Rattle.rig.specs.Run.{Ended, runOf, allKnown, answersOver}
 use Rattle.image.proofs.Images.{decode-image, image-decode}
 use Rattle.rig.proofs.Runs.{run-ok, outcome-written}
 use Rattle.rig.proofs.Pieces.{answers-length}
-use Rattle.transfers.specs.Clocks.{clockEvent, nineClocks, linesOf}
+use Rattle.clocks.specs.Clocks.{clockEvent, nineClocks, linesOf}
 use Rattle.master.specs.Numbers.{most}
-use Rattle.master.specs.Events.{written, asked, opening, allWritten, askedOn, allAsked, writeEvents, readEvents}
-use Rattle.master.specs.Events.{writeCount, readCount}
+use Rattle.clocks.specs.Events.{written, asked, opening, allWritten, askedOn, allAsked, writeEvents, readEvents}
+use Rattle.clocks.specs.Events.{writeCount, readCount}
 use Rattle.master.specs.Told.{flagsOf, bytesOf}
 use Rattle.master.specs.Outcome.{filled, writeEventsOf, readEventsOf, writeToldOf, readToldOf}
-use Rattle.master.proofs.Laying.{write-count, read-count}
+use Rattle.clocks.proofs.Laying.{write-count, read-count}
 use Rattle.roundtrip.specs.Through.{given, Through}
 use Rattle.roundtrip.proofs.Trip.{round-trip}
 

@@ -21,7 +21,7 @@ use Rattle.device.specs.Chip.{memorySize}
 use Rattle.device.specs.declared.State.{State}
 use Rattle.transfers.proofs.Runs.{Leads, leads-then, start-leads}
 use Rattle.transfers.proofs.Written.{onBus, data-stored, data-left, write-opens}
-use Rattle.master.specs.Events.{opening, allWritten, askedOn, writeEvents, readEvents}
+use Rattle.clocks.specs.Events.{opening, allWritten, askedOn, writeEvents, readEvents}
 use Rattle.roundtrip.specs.Stretch.{AllBytes, storedBy}
 use Rattle.roundtrip.proofs.Bytes.{none-leads, slave-read, byte-read, byte-unheard, stop-leads}
 

@@ -8,7 +8,7 @@ use lib.ListN.{length}
 use Rattle.companion.specs.Part.{guardOf}
 use Rattle.device.specs.declared.State.{State}
 use Rattle.rig.specs.Run.{runOf}
-use Rattle.master.specs.Events.{writeEvents}
+use Rattle.clocks.specs.Events.{writeEvents}
 use Rattle.master.specs.Told.{flagsOf, bytesOf}
 use Rattle.roundtrip.specs.Stretch.{AllBytes, fetchedFrom}
 use Rattle.roundtrip.specs.Trip.{WriteTells, ReadTells, RoundTrip}

@@ -18,7 +18,7 @@ use Rattle.image.specs.Image.{decodeOf}
 use Rattle.rig.specs.Run as Run
 use Rattle.image.specs.declared.Decoded.the-variants.{Good}
 use Rattle.master.specs.Numbers.{most}
-use Rattle.master.specs.Events.{writeCount, readCount}
+use Rattle.clocks.specs.Events.{writeCount, readCount}
 use Rattle.master.specs.Outcome.{Outcome, filled, writeEventsOf, readEventsOf, writeToldOf, readToldOf}
 use Rattle.roundtrip.specs.Stretch.{AllBytes, Free}
 

@@ -17,9 +17,9 @@ use Rattle.companion.specs.Part.{guardOf}
 use Rattle.device.specs.Chip.{memorySize}
 use Rattle.device.specs.declared.State.{State}
 use Rattle.rig.specs.Run.{Ended, runOf}
-use Rattle.transfers.specs.Clocks.{linesOf}
+use Rattle.clocks.specs.Clocks.{linesOf}
 use Rattle.master.specs.Numbers.{most}
-use Rattle.master.specs.Events.{writeEvents, readEvents}
+use Rattle.clocks.specs.Events.{writeEvents, readEvents}
 use Rattle.master.specs.Told.{flagsOf, bytesOf}
 use Rattle.roundtrip.specs.Stretch.{AllBytes, Free, flagsBy, storedBy, fetchedFrom}
 

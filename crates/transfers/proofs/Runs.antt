@@ -23,7 +23,7 @@ use Rattle.device.specs.Event.{happening, eventOn, eventOf}
 use Rattle.device.specs.declared.State.{State}
 use Rattle.rig.specs.Run.{Ended, answerTo, runOf}
 use Rattle.rig.proofs.Pieces.{run-append}
-use Rattle.transfers.specs.Clocks.{clockEvent, clocksOf, isHigh, linesOf}
+use Rattle.clocks.specs.Clocks.{clockEvent, clocksOf, isHigh, linesOf}
 
 -- a device on main power, of the machine's state
 abbrev pub live : Machine.State fm3130 → State

@@ -25,7 +25,7 @@ use Rattle.companion.specs.Part.{guardOf}
 use Rattle.companion.specs.declared.Companion.{Companion}
 use Rattle.device.specs.Chip.{memorySize, fm3130}
 use Rattle.device.specs.declared.State.{State}
-use Rattle.transfers.specs.Clocks.{nineClocks, writeTo, linesOf, lastLine}
+use Rattle.clocks.specs.Clocks.{nineClocks, writeTo, linesOf, lastLine}
 use Rattle.transfers.specs.Written.{addressOf, Written, stored, refused, WrittenOnTheWire}
 use Rattle.transfers.proofs.Runs.{Leads, leads-then, led, start-leads}
 

@@ -18,7 +18,7 @@ use Rattle.companion.specs.Registers.{registerBytes}
 use Rattle.companion.specs.Part.{loadedOf}
 use Rattle.device.specs.declared.State.{State}
 use Rattle.rig.specs.Run.{runOf}
-use Rattle.transfers.specs.Clocks.{clocksOf, linesOf}
+use Rattle.clocks.specs.Clocks.{clocksOf, linesOf}
 
 -- The Clocks with these lines of the master are answered by the bits of the byte, high bit first, each low too where the
 -- master pulls it low.

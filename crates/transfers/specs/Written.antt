@@ -16,7 +16,7 @@ use Rattle.companion.specs.Part.{guardOf}
 use Rattle.device.specs.Chip.{memorySize}
 use Rattle.device.specs.declared.State.{State}
 use Rattle.rig.specs.Run.{Ended, runOf}
-use Rattle.transfers.specs.Clocks.{nineClocks, writeTo, linesOf, lastLine}
+use Rattle.clocks.specs.Clocks.{nineClocks, writeTo, linesOf, lastLine}
 
 -- The data byte's ninth clock has the master's line at d.
 abbrev pub writeEvents : ℕ → ℕ → ℕ → Bool → List ℕ

@@ -6,7 +6,7 @@ use Prim.Native.Nat.{_-_}
 use mathlib.Core.Path.{sym}
 use native.Mathlib.Omega.{arith}
 use denote.Ref.{now}
-use Rattle.master.proofs.Laying.{laid-then, asked-on-length}
+use Rattle.clocks.proofs.Laying.{laid-then, asked-on-length}
 use Rattle.master.proofs.Ways.{read-too-many, read-none, read-address, read-room, read-done, read-laid}
 use borrow.Author.Needs.{needs}
 use Rattle.master.proofs.events.fm3130_read_events.Statement.{statement}

@@ -5,8 +5,8 @@
 use mathlib.Core.Path.{sym}
 use native.Mathlib.Omega.{arith}
 use denote.Ref.{now}
-use Rattle.master.specs.Events.{writeEvents}
-use Rattle.master.proofs.Laying.{laid-then, written-length}
+use Rattle.clocks.specs.Events.{writeEvents}
+use Rattle.clocks.proofs.Laying.{laid-then, written-length}
 use Rattle.master.proofs.Ways.{write-too-many, write-address, write-room, write-done}
 use borrow.Author.Needs.{needs}
 use Rattle.master.proofs.events.fm3130_write_events.Statement.{statement}

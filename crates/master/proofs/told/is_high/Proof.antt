@@ -2,7 +2,7 @@
 -- `master::told::is_high` meets its contract: the line of an answer is that answer's place among the lines.
 -- Assumes nothing.
 use denote.Ref.{now}
-use Rattle.master.proofs.Laying.{line-at}
+use Rattle.master.proofs.Listing.{line-at}
 use borrow.Author.Needs.{needs}
 use Rattle.master.proofs.told.is_high.Statement.{statement}
 use Rattle.master.proofs.told.is_high.Tie as tie

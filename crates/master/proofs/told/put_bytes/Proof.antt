@@ -7,9 +7,9 @@ use mathlib.Core.Path.{_≡_}
 use denote.Ref.{now}
 use lib.ListN.{length}
 use lib.Seq.{sets}
-use Rattle.transfers.specs.Clocks.{linesOf}
+use Rattle.clocks.specs.Clocks.{linesOf}
 use Rattle.master.specs.Told.{listOf, byteAt}
-use Rattle.master.proofs.Laying.{listed-more}
+use Rattle.master.proofs.Listing.{listed-more}
 use borrow.Author.Needs.{needs}
 use Rattle.master.proofs.told.put_bytes.Statement.{statement}
 use Rattle.master.proofs.told.put_bytes.Tie as tie

@@ -9,10 +9,8 @@ use native.Mathlib.Omega.{arith}
 use native.Mathlib.Numerals.{add-one}
 use lib.ListN.{length, take, drop, getD, set, length-append}
 use lib.Seq.{sets, sets-eq, length-sets, length-take-le, take-suc, take-all}
-use Rattle.master.specs.Events.{written, asked, allWritten, askedOn, allAsked, writeEvents, readEvents, writeCount, readCount}
-use Rattle.transfers.specs.Clocks.{isHigh, linesOf}
-use Rattle.master.specs.Told.{lineAt, listOf}
-use Rattle.master.specs.Laid.{Laid}
+use Rattle.clocks.specs.Events.{written, asked, allWritten, askedOn, allAsked, writeEvents, readEvents, writeCount, readCount}
+use Rattle.clocks.specs.Laid.{Laid}
 
 pub sets-append : (l : List ℕ) (i j : ℕ) (xs ys : List ℕ) → j ≡ i + length xs → sets (sets l i xs) j ys ≡ sets l i (xs ++ ys)
 sets-append l i j [] ys e = let q : j ≡ i = omega arith in rw q
@@ -36,16 +34,6 @@ pub lay-more : (e from : List ℕ) (at i : ℕ) → i < length from
 lay-more e from at i h =
     let n : at + i ≡ at + length (take i from) = rw (length-take-le i from (omega arith)) refl in
     rw (add-one, take-suc from i 0 h) (sets-append e at (at + i) (take i from) (getD from i 0 ∷ []) n)
-
--- one value more of a function
-pub length-listOf : (f : ℕ → ℕ) (n : ℕ) → length (listOf f n) ≡ n
-length-listOf f zero = refl
-length-listOf f (suc n) = length-append (listOf f n) (f n ∷ []) ∙ (let h = length-listOf f n in omega arith)
-
-pub listed-more : (e : List ℕ) (f : ℕ → ℕ) (i : ℕ) → set (sets e 0 (listOf f i)) i (f i) ≡ sets e 0 (listOf f (i + 1))
-listed-more e f i =
-    let n : i ≡ 0 + length (listOf f i) = let h = length-listOf f i in omega arith in
-    rw add-one (sets-append e 0 i (listOf f i) (f i ∷ []) n)
 
 -- the whole front
 pub front : (e xs : List ℕ) → length xs ≤ length e → sets e 0 xs ≡ xs ++ drop (length xs) e
@@ -104,10 +92,3 @@ pub laid-all : (e from e′ : List ℕ) (at i : ℕ) → i ≤ length from → l
     → Laid e at from (at + i) e′
 laid-all e from e′ at i h g q =
     record { place = omega arith; buffer = q ∙ ap (λ (l : List ℕ). sets e at l) (take-all i from g) }
-
--- the line of one answer is that answer's place among the lines
-pub line-at : (answers : List ℕ) (k : ℕ) → k < length answers
-    → isHigh (getD answers k 0) ≡ lineAt (linesOf answers) k
-line-at [] k h = absurd (omega arith)
-line-at (x ∷ xs) zero h = refl
-line-at (x ∷ xs) (suc k) h = line-at xs k (omega arith)

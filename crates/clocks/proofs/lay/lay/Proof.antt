@@ -1,15 +1,15 @@
 -- SPDX-License-Identifier: Apache-2.0
--- `master::lay::lay` meets its contract: byte after byte: what was laid so far is the front of the list.
+-- `clocks::lay::lay` meets its contract: byte after byte: what was laid so far is the front of the list.
 -- Assumes nothing.
 use Prim.Native.Nat.{_≤_, _-_}
 use mathlib.Core.Path.{_≡_}
 use denote.Ref.{now}
 use lib.ListN.{length, take}
 use lib.Seq.{sets}
-use Rattle.master.proofs.Laying.{lay-more, laid-all}
+use Rattle.clocks.proofs.Laying.{lay-more, laid-all}
 use borrow.Author.Needs.{needs}
-use Rattle.master.proofs.lay.lay.Statement.{statement}
-use Rattle.master.proofs.lay.lay.Tie as tie
+use Rattle.clocks.proofs.lay.lay.Statement.{statement}
+use Rattle.clocks.proofs.lay.lay.Tie as tie
 
 abbrev Inv-loop : tie.InvT-loop
 Inv-loop from events₀ at i₀ events i = (i ≤ length from) × (length events ≡ length events₀) × (events ≡ sets events₀ at (take i from))

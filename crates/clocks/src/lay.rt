@@ -4,16 +4,15 @@ ghost use mathlib.Core.Path.{_≡_};
 ghost use mathlib.Core.List.{[], _∷_};
 ghost use Prim.Native.Nat.{_+_, _*_, _<_, _≤_};
 ghost use lib.ListN.{length};
-ghost use Rattle.device.specs.Chip.{memorySize};
-ghost use Rattle.transfers.specs.Clocks.{clockEvent, nineClocks};
-ghost use Rattle.master.specs.Events.{opening, allWritten, askedOn};
-ghost use Rattle.master.specs.Laid.{Laid};
+ghost use Rattle.clocks.specs.Clocks.{clockEvent, nineClocks};
+ghost use Rattle.clocks.specs.Events.{opening, allWritten, askedOn};
+ghost use Rattle.clocks.specs.Laid.{Laid};
 use wire::bits::sending_line;
 
 // The events of the wire.
-pub(crate) const START: u8 = 0;
+pub const START: u8 = 0;
 
-pub(crate) const STOP: u8 = 1;
+pub const STOP: u8 = 1;
 
 const CLOCK_LOW: u8 = 2;
 
@@ -22,10 +21,10 @@ const CLOCK_HIGH: u8 = 3;
 // The slave bytes of the memory.
 const WRITE_MEMORY: u8 = 0xA0;
 
-pub(crate) const READ_MEMORY: u8 = 0xA1;
+pub const READ_MEMORY: u8 = 0xA1;
 
 // What a master sends while the device sends: it leaves the line high.
-pub(crate) const LEFT_HIGH: u8 = 0xFF;
+pub const LEFT_HIGH: u8 = 0xFF;
 
 // The event of a Clock.
 fn clock(high: bool) -> u8
@@ -65,7 +64,7 @@ fn lay(from: &[u8], events: &mut [u8], at: usize) -> usize
 }
 
 // A byte, with the master's line at its ninth clock.
-pub(crate) fn lay_byte(byte: u8, ninth: bool, events: &mut [u8], at: usize) -> usize
+pub fn lay_byte(byte: u8, ninth: bool, events: &mut [u8], at: usize) -> usize
     requires { ⌜ at + 9 ≤ length (now events) ⌝ }
     ensures { λ r. ⌜ Laid (now (events .entry)) at (nineClocks byte ninth) r (now (events .exit)) ⌝ }
 {
@@ -74,7 +73,7 @@ pub(crate) fn lay_byte(byte: u8, ninth: bool, events: &mut [u8], at: usize) -> u
 }
 
 // One event.
-pub(crate) fn lay_event(event: u8, events: &mut [u8], at: usize) -> usize
+pub fn lay_event(event: u8, events: &mut [u8], at: usize) -> usize
     requires { ⌜ at < length (now events) ⌝ }
     ensures { λ r. ⌜ Laid (now (events .entry)) at (event ∷ []) r (now (events .exit)) ⌝ }
 {
@@ -83,8 +82,8 @@ pub(crate) fn lay_event(event: u8, events: &mut [u8], at: usize) -> usize
 }
 
 // Start, the slave byte of a memory write, and the address, at the front of the buffer.
-pub(crate) fn lay_opening(address: u16, events: &mut [u8]) -> usize
-    requires { ⌜ (address < memorySize) × (28 ≤ length (now events)) ⌝ }
+pub fn lay_opening(address: u16, events: &mut [u8]) -> usize
+    requires { ⌜ 28 ≤ length (now events) ⌝ }
     ensures { λ r. ⌜ Laid (now (events .entry)) 0 (opening address) r (now (events .exit)) ⌝ }
 {
     let started = lay_event(START, events, 0);
@@ -94,7 +93,7 @@ pub(crate) fn lay_opening(address: u16, events: &mut [u8]) -> usize
 }
 
 // Data bytes that are written. At each ninth clock the line is left to the device.
-pub(crate) fn lay_written(bytes: &[u8], events: &mut [u8], at: usize) -> usize
+pub fn lay_written(bytes: &[u8], events: &mut [u8], at: usize) -> usize
     requires { ⌜ at + 9 * length (now bytes) ≤ length (now events) ⌝ }
     ensures { λ r. ⌜ Laid (now (events .entry)) at (allWritten (now (bytes .entry))) r (now (events .exit)) ⌝ }
 {
@@ -108,7 +107,7 @@ pub(crate) fn lay_written(bytes: &[u8], events: &mut [u8], at: usize) -> usize
 }
 
 // Data bytes that are read, after each of which the read goes on.
-pub(crate) fn lay_asked(count: usize, events: &mut [u8], at: usize) -> usize
+pub fn lay_asked(count: usize, events: &mut [u8], at: usize) -> usize
     requires { ⌜ at + 9 * count ≤ length (now events) ⌝ }
     ensures { λ r. ⌜ Laid (now (events .entry)) at (askedOn count) r (now (events .exit)) ⌝ }
 {

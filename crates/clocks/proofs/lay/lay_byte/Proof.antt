@@ -1,9 +1,9 @@
 -- SPDX-License-Identifier: Apache-2.0
--- `master::lay::lay_byte` meets its contract: the nine Clocks, laid as a list.
+-- `clocks::lay::lay_byte` meets its contract: the nine Clocks, laid as a list.
 -- Assumes nothing.
 use borrow.Author.Needs.{needs}
-use Rattle.master.proofs.lay.lay_byte.Statement.{statement}
-use Rattle.master.proofs.lay.lay_byte.Tie as tie
+use Rattle.clocks.proofs.lay.lay_byte.Statement.{statement}
+use Rattle.clocks.proofs.lay.lay_byte.Tie as tie
 
 nine-clocks-requires : tie.Need-nine-clocks-requires
 nine-clocks-requires c κs = search needs

@@ -1,16 +1,16 @@
 -- SPDX-License-Identifier: Apache-2.0
--- `master::lay::lay_asked` meets its contract: each byte is one piece more.
+-- `clocks::lay::lay_asked` meets its contract: each byte is one piece more.
 -- Assumes nothing.
 use Prim.Native.Nat.{_+_, _*_, _≤_, _-_}
 use mathlib.Core.Path.{_≡_, _∙_}
 use native.Mathlib.Omega.{arith}
 use lib.ListN.{length}
-use Rattle.master.specs.Events.{askedOn}
-use Rattle.master.specs.Laid.{Laid}
-use Rattle.master.proofs.Laying.{laid-none, laid-then, laid-length, asked-more}
+use Rattle.clocks.specs.Events.{askedOn}
+use Rattle.clocks.specs.Laid.{Laid}
+use Rattle.clocks.proofs.Laying.{laid-none, laid-then, laid-length, asked-more}
 use borrow.Author.Needs.{needs}
-use Rattle.master.proofs.lay.lay_asked.Statement.{statement}
-use Rattle.master.proofs.lay.lay_asked.Tie as tie
+use Rattle.clocks.proofs.lay.lay_asked.Statement.{statement}
+use Rattle.clocks.proofs.lay.lay_asked.Tie as tie
 
 abbrev Inv-loop : tie.InvT-loop
 Inv-loop count events₀ at to₀ i₀ events to i = (i ≤ count) × (to ≡ at + 9 * i) × (length events ≡ length events₀) × Laid events₀ at (askedOn i) to events

@@ -10,7 +10,7 @@
 use Prim.Native.Nat.{ℕ, zero, suc, _+_, _*_, _/_, _%_}
 use mathlib.Core.Bool.{Bool, true, false}
 use mathlib.Core.List.{List, [], _∷_, _++_}
-use Rattle.transfers.specs.Clocks.{nineClocks, writeTo}
+use Rattle.clocks.specs.Clocks.{nineClocks, writeTo}
 
 -- At its ninth clock the master leaves the line high, so that the device's acknowledge is seen.
 abbrev pub written : ℕ → List ℕ

@@ -1,9 +1,9 @@
 -- SPDX-License-Identifier: Apache-2.0
--- `master::lay::nine_clocks` meets its contract: each element is the Clock of one bit.
+-- `clocks::lay::nine_clocks` meets its contract: each element is the Clock of one bit.
 -- Assumes nothing.
 use borrow.Author.Needs.{needs}
-use Rattle.master.proofs.lay.nine_clocks.Statement.{statement}
-use Rattle.master.proofs.lay.nine_clocks.Tie as tie
+use Rattle.clocks.proofs.lay.nine_clocks.Statement.{statement}
+use Rattle.clocks.proofs.lay.nine_clocks.Tie as tie
 
 sending-line-requires : tie.Need-sending-line-requires
 sending-line-requires c κs = search needs

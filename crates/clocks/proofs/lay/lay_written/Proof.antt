@@ -1,5 +1,5 @@
 -- SPDX-License-Identifier: Apache-2.0
--- `master::lay::lay_written` meets its contract: each byte is one piece more.
+-- `clocks::lay::lay_written` meets its contract: each byte is one piece more.
 -- Assumes nothing.
 use Prim.Native.Nat.{_+_, _*_, _≤_, _-_}
 use mathlib.Core.Path.{_≡_, _∙_}
@@ -7,12 +7,12 @@ use native.Mathlib.Omega.{arith}
 use denote.Ref.{now}
 use lib.ListN.{length, take}
 use lib.Seq.{take-all}
-use Rattle.master.specs.Events.{allWritten}
-use Rattle.master.specs.Laid.{Laid}
-use Rattle.master.proofs.Laying.{laid-none, laid-then, laid-length, written-more}
+use Rattle.clocks.specs.Events.{allWritten}
+use Rattle.clocks.specs.Laid.{Laid}
+use Rattle.clocks.proofs.Laying.{laid-none, laid-then, laid-length, written-more}
 use borrow.Author.Needs.{needs}
-use Rattle.master.proofs.lay.lay_written.Statement.{statement}
-use Rattle.master.proofs.lay.lay_written.Tie as tie
+use Rattle.clocks.proofs.lay.lay_written.Statement.{statement}
+use Rattle.clocks.proofs.lay.lay_written.Tie as tie
 
 abbrev Inv-loop : tie.InvT-loop
 Inv-loop bytes events₀ at to₀ i₀ events to i = (i ≤ length bytes) × (to ≡ at + 9 * i) × (length events ≡ length events₀) × Laid events₀ at (allWritten (take i bytes)) to events

@@ -1,10 +1,10 @@
 -- SPDX-License-Identifier: Apache-2.0
--- `master::lay::lay_opening` meets its contract: four pieces, one after another.
+-- `clocks::lay::lay_opening` meets its contract: four pieces, one after another.
 -- Assumes nothing.
-use Rattle.master.proofs.Laying.{laid-then}
+use Rattle.clocks.proofs.Laying.{laid-then}
 use borrow.Author.Needs.{needs}
-use Rattle.master.proofs.lay.lay_opening.Statement.{statement}
-use Rattle.master.proofs.lay.lay_opening.Tie as tie
+use Rattle.clocks.proofs.lay.lay_opening.Statement.{statement}
+use Rattle.clocks.proofs.lay.lay_opening.Tie as tie
 
 lay-event-requires : tie.Need-lay-event-requires
 lay-event-requires c κs = search needs
