@@ -1,6 +1,4 @@
 -- SPDX-License-Identifier: Apache-2.0
 pub mod Events
-pub mod Shown
-pub mod Words
 pub mod Byte
 pub mod Proven

@@ -1,6 +1,5 @@
 -- SPDX-License-Identifier: Apache-2.0
 pub mod History
 pub mod Log
-pub mod Lit
 pub mod Step
 pub mod Statement

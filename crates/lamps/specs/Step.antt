@@ -2,12 +2,11 @@
 -- The record by value: what it keeps, and what an event makes of it. The code's contracts cite this; what it is worth is
 -- said by specs/Statement.
 --   atRest, followed      the byte under way
---   lampNext, lampsNext   the lamps, line by line of the log
 --   stepOf, reportOf      the record
 -- Assumes nothing.
-use Prim.Native.Nat.{ℕ, _+_, _-_}
+use Prim.Native.Nat.{ℕ}
 use mathlib.Core.Bool.{Bool, false, cond, not, _&&_}
-use lib.Dec.{eqb, ltb}
+use lib.Dec.{eqb}
 use Rattle.wire.specs.Bits.{pushed}
 use Rattle.wire.specs.Machine.{start, stop, clock}
 use Rattle.wire.specs.declared.Side.the-variants.{Memory, Companion}
@@ -21,14 +20,11 @@ use Rattle.device.specs.declared.State.{State}
 use Rattle.device.specs.declared.Answered.{Answered}
 use Rattle.clocks.specs.Clocks.{isHigh}
 use Rattle.lamps.specs.Log.{clocksOf, dueOf, markFrom}
-use Rattle.lamps.specs.Lit.{lampAddress}
-use Rattle.lamps.specs.declared.Mark.{Mark}
-use Rattle.lamps.specs.declared.Mark.the-variants.{Failed, Ended, Ticked, Gave, Other}
+use Rattle.eight.specs.Eight.{lampsNext, dark, byteOf}
+use Rattle.eight.specs.declared.Mark.{Mark}
 use Rattle.lamps.specs.declared.Due.{Due}
 use Rattle.lamps.specs.declared.Due.the-variants.{Acknowledge}
 use Rattle.lamps.specs.declared.Follower.{Follower}
-use Rattle.lamps.specs.declared.Lamp.{Lamp}
-use Rattle.lamps.specs.declared.Lamps.{Lamps}
 use Rattle.lamps.specs.declared.Proving.{Proving}
 
 abbrev pub following : Bool → ℕ → ℕ → Follower
@@ -81,49 +77,6 @@ abbrev pub markBy : Follower → State → ℕ → Mark
 markBy f s e =
     markFrom (happening e) (clocksBy f (s .phase)) (dueBy f (s .phase)) (pullsOf (s .power) (s .phase)) (f .place) (f .byte)
 
--- A lamp keeps what the transaction under way gave (0 nothing, 1 lit, 2 dark), and for how many ticks it is still lit.
-abbrev pub lamp : ℕ → ℕ → Lamp
-lamp h n = record { held = h; left = n }
-
-abbrev pub lampEnded : Lamp → Lamp
-lampEnded l = cond (eqb (l .held) 0) l (cond (eqb (l .held) 1) (lamp 0 3) (lamp 0 0))
-
-abbrev pub lampGave : ℕ → Lamp → Lamp
-lampGave v l = cond (eqb v 1) (lamp 1 (l .left)) (lamp 2 (l .left))
-
-abbrev pub lampNext : ℕ → Mark → Lamp → Lamp
-lampNext at Failed l = lamp 0 0
-lampNext at Ended l = lampEnded l
-lampNext at Ticked l = lamp (l .held) (l .left - 1)
-lampNext at (Gave a v) l = cond (eqb a at) (lampGave v l) l
-lampNext at Other l = l
-
-abbrev pub lampsNext : Mark → Lamps → Lamps
-lampsNext x l =
-    record {
-      zero = lampNext (lampAddress 0) x (l .zero);
-      one = lampNext (lampAddress 1) x (l .one);
-      two = lampNext (lampAddress 2) x (l .two);
-      three = lampNext (lampAddress 3) x (l .three);
-      four = lampNext (lampAddress 4) x (l .four);
-      five = lampNext (lampAddress 5) x (l .five);
-      six = lampNext (lampAddress 6) x (l .six);
-      seven = lampNext (lampAddress 7) x (l .seven);
-    }
-
-abbrev pub dark : Lamps
-dark =
-    record {
-      zero = lamp 0 0;
-      one = lamp 0 0;
-      two = lamp 0 0;
-      three = lamp 0 0;
-      four = lamp 0 0;
-      five = lamp 0 0;
-      six = lamp 0 0;
-      seven = lamp 0 0;
-    }
-
 -- The record before any event.
 abbrev pub begun : Proving
 begun = record { follower = atRest; lamps = dark }
@@ -134,22 +87,6 @@ stepOf r s e d =
       follower = followed (r .follower) (happening e) s (d .state .phase) (isHigh (d .answer));
       lamps = lampsNext (markBy (r .follower) s e) (r .lamps);
     }
-
-abbrev pub bit : Bool → ℕ → ℕ
-bit d n = cond d n 0
-
--- One byte, bit k for lamp k.
-abbrev pub lampsByte : Bool → Bool → Bool → Bool → Bool → Bool → Bool → Bool → ℕ
-lampsByte a b c d e f g h =
-    bit a 1 + bit b 2 + bit c 4 + bit d 8 + bit e 16 + bit f 32 + bit g 64 + bit h 128
-
-abbrev pub shines : Lamp → Bool
-shines l = ltb 0 (l .left)
-
-abbrev pub byteOf : Lamps → ℕ
-byteOf l =
-    lampsByte (shines (l .zero)) (shines (l .one)) (shines (l .two)) (shines (l .three)) (shines (l .four))
-    (shines (l .five)) (shines (l .six)) (shines (l .seven))
 
 abbrev pub reportOf : Proving → ℕ
 reportOf r = byteOf (r .lamps)

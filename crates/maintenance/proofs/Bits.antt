@@ -7,10 +7,10 @@ use mathlib.Core.Bool.{Bool, true, false, cond}
 use mathlib.Core.List.{List, [], _∷_}
 use native.Mathlib.Omega.{arith}
 use native.Mathlib.Nat.{pow-succ', div-div-eq-div-mul, zero-div}
-use Rattle.lamps.specs.Step.{bit}
-use Rattle.lamps.specs.Lit.{isLit}
+use Rattle.eight.specs.Eight.{bit}
+use Rattle.eight.specs.Lit.{isLit}
 use Rattle.lamps.specs.Statement.{deserved, logged}
-use Rattle.lamps.specs.declared.Mark.{Mark}
+use Rattle.eight.specs.declared.Mark.{Mark}
 use Rattle.lamps.proofs.Proven.{proven}
 use Rattle.maintenance.specs.Maintenance.{Bits}
 

@@ -16,8 +16,8 @@ use Rattle.device.specs.Event.{happening, eventOn}
 use Rattle.device.specs.Power.{fresh}
 use Rattle.clocks.specs.Events.{readEvents}
 use Rattle.lamps.specs.Log.{refusedIn, clocksIn}
-use Rattle.lamps.specs.Lit.{readIn, litFrom}
-use Rattle.lamps.specs.Step.{lampsByte}
+use Rattle.eight.specs.Lit.{readIn, litFrom}
+use Rattle.eight.specs.Eight.{lampsByte}
 use Rattle.lamps.specs.Statement.{deserved, logged}
 use Rattle.maintenance.specs.Examples.{provingRead, unstoppedRead, Shown, pulledRead, LineNotMemory}
 use Rattle.lamps.proofs.Proven.{proven}

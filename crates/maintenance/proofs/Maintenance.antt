@@ -22,17 +22,17 @@ use Rattle.rig.specs.Run.{runOf}
 use Rattle.rig.proofs.Pieces.{run-append}
 use Rattle.lamps.specs.History.{Moment, History, moment, pastOf}
 use Rattle.lamps.specs.Log.{clocksOf, refusedAt, refusedBy, refusedIn, pulls, gaveAt, gaveWhat, isPart, ninth, markFrom, markOf, logOf}
-use Rattle.lamps.specs.Lit.{lampAddress, isStop, isTick, none, count, Last, nothing, gave, readIn, decided, litFrom}
+use Rattle.eight.specs.Lit.{lampAddress, isStop, isTick, none, count, Last, nothing, gave, readIn, decided, litFrom}
 use Rattle.lamps.specs.Step.{pullsOf}
 use Rattle.lamps.specs.Statement.{deserved, logged}
 use Rattle.maintenance.specs.Maintenance.{reported, Unpowered, Hung, Unacknowledged, isTickEvent, isStopEvent, ticksIn, noStop, Silent, isNothing, unread, Unread, ReadAsOne}
-use Rattle.lamps.specs.declared.Mark.{Mark}
-use Rattle.lamps.specs.declared.Mark.the-variants.{Failed, Ended, Ticked, Gave, Other}
+use Rattle.eight.specs.declared.Mark.{Mark}
+use Rattle.eight.specs.declared.Mark.the-variants.{Failed, Ended, Ticked, Gave, Other}
 use Rattle.lamps.specs.declared.Due.{Due}
 use Rattle.lamps.specs.declared.Due.the-variants.{Value, Silence, Acknowledge}
 use Rattle.lamps.proofs.Events.{is-start, is-stop, is-clock, is-second, lost-fails}
 use Rattle.lamps.proofs.Byte.{three, pulls-idle}
-use Rattle.lamps.proofs.Words.{lit-words, words-lit}
+use Rattle.eight.proofs.Words.{lit-words, words-lit}
 use Rattle.lamps.proofs.Proven.{proven}
 
 -- the history of a list in two pieces

@@ -35,13 +35,13 @@ use Rattle.table.specs.Protected.{Change, same, eighth}
 use Rattle.table.proofs.Protected.{only-eighth-clocks}
 use Rattle.lamps.specs.History.{Moment, History, moment, happened, left, pastOf}
 use Rattle.lamps.specs.Log.{isClock, clocksIn, byteShown, addressAt, markOf, logOf}
-use Rattle.lamps.specs.Lit.{lampAddress}
+use Rattle.eight.specs.Lit.{lampAddress}
 use Rattle.lamps.specs.Step.{begun, stepOf}
 use Rattle.lamps.specs.Statement.{answeredBy}
-use Rattle.lamps.specs.declared.Mark.{Mark}
-use Rattle.lamps.specs.declared.Mark.the-variants.{Ended, Gave}
+use Rattle.eight.specs.declared.Mark.{Mark}
+use Rattle.eight.specs.declared.Mark.the-variants.{Ended, Gave}
 use Rattle.lamps.specs.declared.Proving.{Proving}
-use Rattle.lamps.proofs.Words.{lit-words}
+use Rattle.eight.proofs.Words.{lit-words}
 use Rattle.lamps.proofs.Proven.{Stands, stands-begun, stands-next}
 use Rattle.maintenance.specs.Memory.{isHighClock, isLeftHigh, allHigh, writesTo, noWrites, LitWasRead, HoldsOne}
 use Rattle.maintenance.proofs.Under.{no, At, idle-at, clock-at, along}

@@ -15,8 +15,8 @@ use Rattle.wire.proofs.Tests.{by-test}
 use Rattle.device.specs.Event.{Happening, onWire, second, lost, gone, returned}
 use Rattle.lamps.specs.History.{Moment, History, happened}
 use Rattle.lamps.specs.Log.{clocksOf, dueOf, refusedIn, clocksDone, dueAt, pulls, gaveAt, gaveWhat, isPart, ninth, markFrom, markOf}
-use Rattle.lamps.specs.declared.Mark.{Mark}
-use Rattle.lamps.specs.declared.Mark.the-variants.{Failed, Ended, Ticked, Gave, Other}
+use Rattle.eight.specs.declared.Mark.{Mark}
+use Rattle.eight.specs.declared.Mark.the-variants.{Failed, Ended, Ticked, Gave, Other}
 use Rattle.lamps.specs.declared.Due.{Due}
 use Rattle.lamps.specs.declared.Due.the-variants.{Value, Silence, Acknowledge}
 use Rattle.maintenance.proofs.Under.{no, At}

@@ -22,12 +22,12 @@ use Rattle.device.specs.declared.State.{State}
 use Rattle.rig.specs.Run.{runOf}
 use Rattle.lamps.specs.History.{Moment, History, moment, happened, left, pastOf}
 use Rattle.lamps.specs.Log.{clocksOf, refusedIn, clocksDone, dueAt, pulls, isClock, gaveAt, gaveWhat, ninth, markFrom}
-use Rattle.lamps.specs.Lit.{isFailure, none}
+use Rattle.eight.specs.Lit.{isFailure, none}
 use Rattle.lamps.specs.Step.{begun, stepOf}
 use Rattle.lamps.specs.Statement.{answeredBy}
 use Rattle.maintenance.specs.Unbroken.{addedTo, backTo, Unbroken}
-use Rattle.lamps.specs.declared.Mark.{Mark}
-use Rattle.lamps.specs.declared.Mark.the-variants.{Ticked, Other}
+use Rattle.eight.specs.declared.Mark.{Mark}
+use Rattle.eight.specs.declared.Mark.the-variants.{Ticked, Other}
 use Rattle.lamps.specs.declared.Due.{Due}
 use Rattle.lamps.specs.declared.Proving.{Proving}
 use Rattle.lamps.proofs.Proven.{Stands, stands-begun, stands-next}

@@ -21,10 +21,10 @@ use Rattle.device.specs.Event.{Happening, onWire, second, lost, gone, returned,
 use Rattle.device.specs.declared.State.{State}
 use Rattle.rig.specs.Run.{runOf}
 use Rattle.lamps.specs.Log.{clocksOf}
-use Rattle.lamps.specs.Lit.{lampAddress, isStop, isTick, count, Lit, Last, nothing, gave, readIn, isLit}
+use Rattle.eight.specs.Lit.{lampAddress, isStop, isTick, count, Lit, Last, nothing, gave, readIn, isLit}
 use Rattle.lamps.specs.Step.{begun, reportOf}
 use Rattle.lamps.specs.Statement.{provenBy, logged}
-use Rattle.lamps.specs.declared.Mark.{Mark}
+use Rattle.eight.specs.declared.Mark.{Mark}
 
 abbrev pub reported : State → List ℕ → List ℕ → ℕ
 reported s m es = reportOf (provenBy begun s m es)

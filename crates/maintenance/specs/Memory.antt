@@ -22,9 +22,9 @@ use Rattle.device.specs.declared.State.{State}
 use Rattle.rig.specs.Run.{runOf}
 use Rattle.lamps.specs.History.{Moment, History, happened, pastOf}
 use Rattle.lamps.specs.Log.{isClock, clocksIn, markOf}
-use Rattle.lamps.specs.Lit.{lampAddress, isLit}
+use Rattle.eight.specs.Lit.{lampAddress, isLit}
 use Rattle.lamps.specs.Statement.{logged}
-use Rattle.lamps.specs.declared.Mark.the-variants.{Gave}
+use Rattle.eight.specs.declared.Mark.the-variants.{Gave}
 
 -- "3 Clock with the master's data line high."
 abbrev pub isHighClock : Happening → Bool

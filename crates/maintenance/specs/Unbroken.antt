@@ -12,9 +12,9 @@ use Rattle.device.specs.declared.State.{State}
 use Rattle.rig.specs.Run.{runOf}
 use Rattle.lamps.specs.History.{History, moment, happened, pastOf}
 use Rattle.lamps.specs.Log.{isClock, markOf}
-use Rattle.lamps.specs.Lit.{isFailure, none}
-use Rattle.lamps.specs.declared.Mark.{Mark}
-use Rattle.lamps.specs.declared.Mark.the-variants.{Gave}
+use Rattle.eight.specs.Lit.{isFailure, none}
+use Rattle.eight.specs.declared.Mark.{Mark}
+use Rattle.eight.specs.declared.Mark.the-variants.{Gave}
 
 -- Auxiliary: one line more; a Clock counts.
 abbrev pub addedTo : Happening → Mark → (ℕ → List Mark) → ℕ → List Mark

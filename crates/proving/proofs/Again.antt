@@ -21,14 +21,15 @@ use Rattle.device.specs.declared.State.{State}
 use Rattle.device.specs.declared.Answered.{Answered}
 use Rattle.device.proofs.Entry.{ready}
 use Rattle.device.proofs.Wellformed.{event-ok}
-use Rattle.image.proofs.Images.{image-decode}
-use Rattle.lamps.specs.Step.{bit, lampNext, markBy, gathered, followed, stepOf}
+use Rattle.rig.proofs.Images.{image-decode}
+use Rattle.eight.specs.Eight.{bit, lampNext}
+use Rattle.lamps.specs.Step.{markBy, gathered, followed, stepOf}
 use Rattle.lamps.specs.Statement.{answeredBy, provenBy}
 use Rattle.proving.specs.Kept.{keptOf, bytesOf, lampFits, lampsIn, lampsFit, isKept}
-use Rattle.lamps.specs.declared.Mark.{Mark}
-use Rattle.lamps.specs.declared.Mark.the-variants.{Failed, Ended, Ticked, Gave, Other}
+use Rattle.eight.specs.declared.Mark.{Mark}
+use Rattle.eight.specs.declared.Mark.the-variants.{Failed, Ended, Ticked, Gave, Other}
 use Rattle.lamps.specs.declared.Follower.{Follower}
-use Rattle.lamps.specs.declared.Lamp.{Lamp}
+use Rattle.eight.specs.declared.Lamp.{Lamp}
 use Rattle.lamps.specs.declared.Proving.{Proving}
 use Rattle.proving.specs.Laws.{TakenAgain}
 use Rattle.proving.proofs.Loop.{kept-length}

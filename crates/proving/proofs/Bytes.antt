@@ -10,7 +10,8 @@ use native.Mathlib.Nat.{div-add-mod'}
 use lib.Dec.{eqb}
 use Rattle.device.specs.Event.{eventOf}
 use Rattle.rig.specs.Run.{runOf}
-use Rattle.lamps.specs.Step.{bit, stepOf}
+use Rattle.eight.specs.Eight.{bit}
+use Rattle.lamps.specs.Step.{stepOf}
 use Rattle.lamps.specs.Statement.{answeredBy}
 use Rattle.proving.specs.Kept.{keptOf, bytesOf, isKept}
 use Rattle.proving.specs.Run.{seen, LampsSettled}

@@ -8,9 +8,10 @@ use mathlib.Core.Bool.{Bool, false, cond, _&&_}
 use mathlib.Core.List.{List, [], _∷_}
 use lib.Dec.{eqb, leb}
 use lib.ListN.{length, getD}
-use Rattle.lamps.specs.Step.{following, lamp, bit}
-use Rattle.lamps.specs.declared.Lamp.{Lamp}
-use Rattle.lamps.specs.declared.Lamps.{Lamps}
+use Rattle.eight.specs.Eight.{lamp, bit}
+use Rattle.lamps.specs.Step.{following}
+use Rattle.eight.specs.declared.Lamp.{Lamp}
+use Rattle.eight.specs.declared.Lamps.{Lamps}
 use Rattle.lamps.specs.declared.Proving.{Proving}
 
 abbrev pub keptSize : ℕ

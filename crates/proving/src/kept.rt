@@ -5,12 +5,12 @@ ghost use mathlib.Core.Path.{_≡_};
 ghost use Prim.Native.Nat.{_+_, _*_, _≤_, _<_};
 ghost use lib.ListN.{length};
 ghost use Rattle.proving.specs.Kept.{lampIn, lampsIn, keptOf, bytesOf, lampFits, lampsFit, isKept};
-ghost use Rattle.lamps.specs.Step.{bit};
+ghost use Rattle.eight.specs.Eight.{bit};
 use crate::run::RECORD;
+use eight::Lamp;
+use eight::Lamps;
 use frame::bytes::copy;
 use lamps::Follower;
-use lamps::Lamp;
-use lamps::Lamps;
 use lamps::Proving;
 
 // The number that two bytes make.
