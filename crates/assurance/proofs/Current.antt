@@ -18,7 +18,7 @@ use Rattle.device.specs.Power.{fresh}
 use Rattle.device.specs.Event.{happening, eventOn}
 use Rattle.rig.specs.Run.{runOf, allKnown}
 use Rattle.clocks.specs.Events.{written, writeEvents}
-use Rattle.handheld.specs.declared.Master.the-variants.{Rig}
+use Rattle.holding.specs.declared.Master.the-variants.{Rig}
 use Rattle.assurance.specs.Same.{Alongside, ReadsIn}
 use Rattle.assurance.specs.Current.{setRead, currentRead, lentBytes, silent, aimed, NoAssurance}
 use Rattle.assurance.proofs.Same.{same-answers}

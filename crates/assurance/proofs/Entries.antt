@@ -15,13 +15,13 @@ use Rattle.image.specs.declared.Decoded.the-variants.{Good}
 use Rattle.rig.specs.Run.{Outcome, allKnown}
 use Rattle.image.proofs.Images.{decode-image}
 use Rattle.rig.proofs.Runs.{outcome-written}
-use Rattle.handheld.specs.Bus.{mayAsk, mayCall, frees, masterNumber, holderNumber, standingOf}
+use Rattle.holding.specs.Bus.{mayAsk, mayCall, frees, masterNumber, holderNumber, standingOf}
 use Rattle.handheld.specs.Outcome.{AskOutcome, CallOutcome}
-use Rattle.handheld.specs.declared.Master.{Master}
-use Rattle.handheld.specs.declared.Master.the-variants.{Rig, Handheld}
-use Rattle.handheld.specs.declared.Holder.{Holder}
-use Rattle.handheld.specs.declared.Holder.the-variants.{Nobody, Held}
-use Rattle.handheld.specs.declared.Standing.the-variants.{Known}
+use Rattle.holding.specs.declared.Master.{Master}
+use Rattle.holding.specs.declared.Master.the-variants.{Rig, Handheld}
+use Rattle.holding.specs.declared.Holder.{Holder}
+use Rattle.holding.specs.declared.Holder.the-variants.{Nobody, Held}
+use Rattle.holding.specs.declared.Standing.the-variants.{Known}
 use Rattle.handheld.proofs.Ways.{ask-refused, ask-answered, call-unknown-event, call-not-held, call-ran}
 use Rattle.assurance.specs.Session.{World, asks, afterAct}
 use Rattle.assurance.specs.Entries.{busByte, AskAs, CallAs, AsTheEntries}

@@ -14,7 +14,7 @@ use Rattle.bus.specs.declared.Power.{Power}
 use Rattle.bus.specs.declared.Power.the-variants.{On, Backup, Off}
 use Rattle.device.specs.declared.State.{State}
 use Rattle.rig.specs.Run.{runOf}
-use Rattle.handheld.specs.declared.Master.{Master}
+use Rattle.holding.specs.declared.Master.{Master}
 use Rattle.assurance.specs.Session.{afterActs, ownOf, begin}
 use Rattle.assurance.specs.Same.{ReadsIn, SameAnswers}
 use Rattle.assurance.proofs.Near.{equal, weaken}

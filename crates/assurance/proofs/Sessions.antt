@@ -18,11 +18,11 @@ use Rattle.device.specs.Event.{Happening, onWire, second, lost, gone, returned,
 use Rattle.device.specs.declared.State.{State}
 use Rattle.rig.specs.Run.{runOf, allKnown}
 use Rattle.rig.proofs.Pieces.{run-append}
-use Rattle.handheld.specs.Bus.{sameMaster, holds, afterAsk, isBus, anyBus, mayCall, freedBy, frees}
-use Rattle.handheld.specs.declared.Master.{Master}
-use Rattle.handheld.specs.declared.Holder.{Holder}
-use Rattle.handheld.specs.declared.Master.the-variants.{Rig, Handheld}
-use Rattle.handheld.specs.declared.Holder.the-variants.{Nobody, Held}
+use Rattle.holding.specs.Bus.{sameMaster, holds, afterAsk, isBus, anyBus, mayCall, freedBy, frees}
+use Rattle.holding.specs.declared.Master.{Master}
+use Rattle.holding.specs.declared.Holder.{Holder}
+use Rattle.holding.specs.declared.Master.the-variants.{Rig, Handheld}
+use Rattle.holding.specs.declared.Holder.the-variants.{Nobody, Held}
 use Rattle.assurance.specs.Session.{World, Act, asks, calls, isAnswered, ranOn, afterAct, afterActs, neithers, ownIn, ownOf}
 use Rattle.assurance.specs.Same.{marked, ReadsSet, markedAfter, HarmlessIn, AskedOf, markAfterAct, Allowed, Fair}
 use Rattle.assurance.proofs.Near.{equal, phases-idle}

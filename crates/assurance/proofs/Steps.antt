@@ -25,7 +25,7 @@ use Rattle.companion.specs.declared.Companion.{Companion as Desk}
 use Rattle.device.specs.Chip.{fm3130}
 use Rattle.device.specs.Event.{Happening, onWire, second, lost, gone, returned, happening, eventOn, eventOf}
 use Rattle.device.specs.declared.State.{State}
-use Rattle.handheld.specs.Bus.{isBus, freedBy}
+use Rattle.holding.specs.Bus.{isBus, freedBy}
 use Rattle.assurance.specs.Same.{ninthOf, marked, ReadSet, Harmless}
 use Rattle.assurance.proofs.Near.{Near, Phases, equal, Placed, weaken}
 use Rattle.assurance.proofs.Mine.{clock-met}

@@ -12,7 +12,7 @@ use mathlib.Core.Bool.{true}
 use mathlib.Core.List.{List, [], _∷_, _++_}
 use Rattle.device.specs.Power.{fresh}
 use Rattle.clocks.specs.Events.{written, asked, writeEvents}
-use Rattle.handheld.specs.declared.Master.the-variants.{Rig, Handheld}
+use Rattle.holding.specs.declared.Master.the-variants.{Rig, Handheld}
 use Rattle.assurance.specs.Session.{Act, asks, calls, afterActs, begin}
 use Rattle.assurance.specs.Same.{answersAfter, Alongside}
 

@@ -11,10 +11,10 @@ use lib.ListN.{length}
 use Rattle.device.specs.Chip.{memorySize}
 use Rattle.device.specs.Limits.{wellFormed}
 use Rattle.device.specs.Numbers.{accepted, notHeld}
-use Rattle.image.specs.Image.{imageOf}
-use Rattle.handheld.specs.Bus.{mayAsk, masterNumber, holderNumber}
+use Rattle.rig.specs.Image.{imageOf}
+use Rattle.holding.specs.Bus.{mayAsk, masterNumber, holderNumber}
 use Rattle.handheld.specs.Outcome.{askOf, callOf}
-use Rattle.handheld.specs.declared.Master.{Master}
+use Rattle.holding.specs.declared.Master.{Master}
 use Rattle.assurance.specs.Session.{World, asks, calls, callNumber, afterAct}
 
 -- Auxiliary: the byte that says who holds the bus.

@@ -22,8 +22,8 @@ use Rattle.device.specs.Chip.{memorySize}
 use Rattle.device.specs.Event.{Happening, onWire, second, lost, gone, returned, happening, eventOf}
 use Rattle.device.specs.declared.State.{State}
 use Rattle.rig.specs.Run.{runOf}
-use Rattle.handheld.specs.Bus.{sameMaster, frees}
-use Rattle.handheld.specs.declared.Master.{Master}
+use Rattle.holding.specs.Bus.{sameMaster, frees}
+use Rattle.holding.specs.declared.Master.{Master}
 use Rattle.assurance.specs.Session.{World, Act, asks, calls, isAnswered, afterAct, afterActs, ownOf, begin}
 
 -- "Its address set, acknowledged, earlier in the same transaction": at the ninth clock of a companion address byte that

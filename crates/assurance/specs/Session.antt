@@ -16,10 +16,10 @@ use Rattle.device.specs.Numbers.{accepted, unknownEvent, notHeld}
 use Rattle.device.specs.Event.{happening}
 use Rattle.device.specs.declared.State.{State}
 use Rattle.rig.specs.Run.{Ended, following, runOf, allKnown}
-use Rattle.handheld.specs.Bus.{sameMaster, afterAsk, isBus, mayCall, holderAfter}
-use Rattle.handheld.specs.declared.Master.{Master}
-use Rattle.handheld.specs.declared.Holder.{Holder}
-use Rattle.handheld.specs.declared.Holder.the-variants.{Nobody}
+use Rattle.holding.specs.Bus.{sameMaster, afterAsk, isBus, mayCall, holderAfter}
+use Rattle.holding.specs.declared.Master.{Master}
+use Rattle.holding.specs.declared.Holder.{Holder}
+use Rattle.holding.specs.declared.Holder.the-variants.{Nobody}
 
 pub record World : Type 0 where
   pub holder : Holder

@@ -16,11 +16,11 @@ use Rattle.device.specs.Chip.{memorySize}
 use Rattle.image.specs.Image.{decodeOf}
 use Rattle.rig.specs.Run.{Outcome, refused, outcomeOf, outcomeWith, allKnown}
 use Rattle.rig.specs.declared.Ran.{Ran}
-use Rattle.image.specs.declared.Decoded.{Decoded}
-use Rattle.image.specs.declared.Decoded.the-variants.{Good, Bad}
-use Rattle.handheld.specs.Bus.{mayAsk, mayCall, masterNumber, standingOf, busFreed}
-use Rattle.handheld.specs.declared.Standing.{Standing}
-use Rattle.handheld.specs.declared.Standing.the-variants.{Known, Unknown}
+use Rattle.rig.specs.declared.Decoded.{Decoded}
+use Rattle.rig.specs.declared.Decoded.the-variants.{Good, Bad}
+use Rattle.holding.specs.Bus.{mayAsk, mayCall, masterNumber, standingOf, busFreed}
+use Rattle.holding.specs.declared.Standing.{Standing}
+use Rattle.holding.specs.declared.Standing.the-variants.{Known, Unknown}
 
 -- What a caller can see of an ask: its number, and the lent byte.
 pub record AskOutcome : Type 0 where

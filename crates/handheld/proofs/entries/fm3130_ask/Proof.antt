@@ -4,7 +4,8 @@
 use mathlib.Core.Path.{sym, _∙_}
 use borrow.Author.Needs.{needs}
 use borrow.Author.Tests.{not-true, not-false}
-use Rattle.handheld.proofs.Ways.{one-byte, one-set, ask-unknown, ask-refused, ask-answered}
+use Rattle.holding.proofs.Known.{one-byte, one-set}
+use Rattle.handheld.proofs.Ways.{ask-unknown, ask-refused, ask-answered}
 use Rattle.handheld.proofs.entries.fm3130_ask.Statement.{statement}
 use Rattle.handheld.proofs.entries.fm3130_ask.Tie as tie
 

@@ -10,11 +10,12 @@ use borrow.Author.Tests.{not-true, not-false}
 use Rattle.device.specs.Chip.{memorySize}
 use Rattle.image.specs.declared.Decoded.the-variants.{Good}
 use Rattle.rig.specs.Run.{allKnown}
-use Rattle.image.specs.Image.{decodeOf}
-use Rattle.image.proofs.Images.{settled-decode, image-decode, decoded-length}
-use Rattle.handheld.specs.declared.Standing.the-variants.{Known}
-use Rattle.handheld.specs.Bus.{mayCall, standingOf}
-use Rattle.handheld.proofs.Ways.{one-byte, call-wrong-memory, call-wrong-image, call-unknown, call-unknown-event}
+use Rattle.rig.specs.Image.{decodeOf}
+use Rattle.rig.proofs.Images.{settled-decode, image-decode, decoded-length}
+use Rattle.holding.specs.declared.Standing.the-variants.{Known}
+use Rattle.holding.specs.Bus.{mayCall, standingOf}
+use Rattle.holding.proofs.Known.{one-byte}
+use Rattle.handheld.proofs.Ways.{call-wrong-memory, call-wrong-image, call-unknown, call-unknown-event}
 use Rattle.handheld.proofs.Ways.{call-not-held, call-short-answers, call-done}
 use Rattle.handheld.proofs.entries.fm3130_call.Statement.{statement}
 use Rattle.handheld.proofs.entries.fm3130_call.Tie as tie

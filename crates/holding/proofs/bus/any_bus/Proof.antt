@@ -7,10 +7,10 @@ use mathlib.Core.Bool.{_||_}
 use denote.Ref.{now}
 use lib.ListN.{length, drop}
 use borrow.Author.Needs.{needs}
-use Rattle.handheld.specs.Bus.{anyBus}
-use Rattle.handheld.proofs.Lists.{any-more, any-end}
-use Rattle.handheld.proofs.bus.any_bus.Statement.{statement}
-use Rattle.handheld.proofs.bus.any_bus.Tie as tie
+use Rattle.holding.specs.Bus.{anyBus}
+use Rattle.holding.proofs.Lists.{any-more, any-end}
+use Rattle.holding.proofs.bus.any_bus.Statement.{statement}
+use Rattle.holding.proofs.bus.any_bus.Tie as tie
 
 abbrev Inv-loop : tie.InvT-loop
 Inv-loop events any₀ i₀ any i = (i ≤ length events) × ((any || anyBus (drop i events)) ≡ anyBus events)

@@ -13,7 +13,7 @@ use lib.Seq.{drop-cons}
 use borrow.Author.Tests.{le-leb, lt-leb, eqb-true, eqb-false, ne-eqb}
 use Rattle.wire.proofs.Tests.{by-test}
 use Rattle.device.specs.Event.{happening}
-use Rattle.handheld.specs.Bus.{isBus, anyBus, freedBy, frees}
+use Rattle.holding.specs.Bus.{isBus, anyBus, freedBy, frees}
 
 -- events 0 to 3 are those of the bus
 bus-byte : (e : ℕ) → isBus (happening e) ≡ leb e 3

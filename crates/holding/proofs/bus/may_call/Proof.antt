@@ -4,8 +4,8 @@
 use mathlib.Core.Path.{refl, sym, ap, _∙_}
 use mathlib.Core.Bool.{not}
 use borrow.Author.Needs.{needs}
-use Rattle.handheld.proofs.bus.may_call.Statement.{statement}
-use Rattle.handheld.proofs.bus.may_call.Tie as tie
+use Rattle.holding.proofs.bus.may_call.Statement.{statement}
+use Rattle.holding.proofs.bus.may_call.Tie as tie
 
 holds-requires : tie.Need-holds-requires
 holds-requires c κs = search needs

@@ -3,9 +3,9 @@
 -- Assumes nothing.
 use mathlib.Core.Path.{sym}
 use borrow.Author.Needs.{needs}
-use Rattle.handheld.proofs.Ways.{standing-long, standing-byte, standing-below, standing-above, standing-known}
-use Rattle.handheld.proofs.bus.standing.Statement.{statement}
-use Rattle.handheld.proofs.bus.standing.Tie as tie
+use Rattle.holding.proofs.Known.{standing-long, standing-byte, standing-below, standing-above, standing-known}
+use Rattle.holding.proofs.bus.standing.Statement.{statement}
+use Rattle.holding.proofs.bus.standing.Tie as tie
 
 returns : tie.Need-returns
 returns c = sym (standing-long _ _ (c .if1 .taken))

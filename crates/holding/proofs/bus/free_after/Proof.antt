@@ -5,9 +5,9 @@ use mathlib.Core.Path.{refl, sym, _∙_}
 use denote.Ref.{now}
 use borrow.Author.Needs.{needs}
 use borrow.Author.Tests.{not-true, not-false}
-use Rattle.handheld.proofs.Ways.{one-set}
-use Rattle.handheld.proofs.bus.free_after.Statement.{statement}
-use Rattle.handheld.proofs.bus.free_after.Tie as tie
+use Rattle.holding.proofs.Known.{one-set}
+use Rattle.holding.proofs.bus.free_after.Statement.{statement}
+use Rattle.holding.proofs.bus.free_after.Tie as tie
 
 frees-requires : tie.Need-frees-requires
 frees-requires c κs = search needs

@@ -2,8 +2,8 @@
 -- Nobody, or the master that the holder is: one comparison.
 -- Assumes nothing.
 use borrow.Author.Needs.{needs}
-use Rattle.handheld.proofs.bus.holds.Statement.{statement}
-use Rattle.handheld.proofs.bus.holds.Tie as tie
+use Rattle.holding.proofs.bus.holds.Statement.{statement}
+use Rattle.holding.proofs.bus.holds.Tie as tie
 
 enum-told : tie.Need-enum-told
 enum-told c = search needs

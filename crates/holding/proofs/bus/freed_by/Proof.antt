@@ -3,9 +3,9 @@
 -- Assumes nothing.
 use mathlib.Core.Path.{sym}
 use Rattle.device.specs.Event.{happening}
-use Rattle.handheld.proofs.Lists.{freed-other}
-use Rattle.handheld.proofs.bus.freed_by.Statement.{statement}
-use Rattle.handheld.proofs.bus.freed_by.Tie as tie
+use Rattle.holding.proofs.Lists.{freed-other}
+use Rattle.holding.proofs.bus.freed_by.Statement.{statement}
+use Rattle.holding.proofs.bus.freed_by.Tie as tie
 
 returns : tie.Need-returns
 unfolding happening

@@ -4,9 +4,9 @@
 ghost use mathlib.Core.Path.{_≡_};
 ghost use mathlib.Core.Bool.{false};
 ghost use lib.ListN.{length};
-ghost use Rattle.handheld.specs.Bus.{sameMaster, holds, mayAsk, masterNumber, masterOf, holderOf, standingOf};
+ghost use Rattle.holding.specs.Bus.{sameMaster, holds, mayAsk, masterNumber, masterOf, holderOf, standingOf};
 ghost use Rattle.device.specs.Event.{happening};
-ghost use Rattle.handheld.specs.Bus.{anyBus, mayCall, freedBy, frees, busFreed};
+ghost use Rattle.holding.specs.Bus.{anyBus, mayCall, freedBy, frees, busFreed};
 use crate::Holder;
 use crate::Master;
 use crate::Standing;
@@ -18,7 +18,7 @@ const NOBODY: u8 = 0;
 const LAST: u8 = 2;
 
 // A master's number.
-pub(crate) fn master_number(master: Master) -> u8
+pub fn master_number(master: Master) -> u8
     ensures { λ r. ⌜ r ≡ masterNumber master ⌝ }
 {
     match master {
@@ -49,7 +49,7 @@ fn holder_of(byte: u8) -> Holder
 }
 
 // What the lent byte and a master's number say.
-pub(crate) fn standing(bus: &[u8], master: u64) -> Standing
+pub fn standing(bus: &[u8], master: u64) -> Standing
     ensures { λ r. ⌜ r ≡ standingOf (now (bus .entry)) master ⌝ }
 {
     if bus.len() != 1 {
@@ -97,7 +97,7 @@ fn holds(holder: Holder, master: Master) -> bool
 }
 
 // Whether an ask is answered: nobody holds the bus, or the asker itself.
-pub(crate) fn may_ask(holder: Holder, master: Master) -> bool
+pub fn may_ask(holder: Holder, master: Master) -> bool
     ensures { λ r. ⌜ r ≡ mayAsk holder master ⌝ }
 {
     match holder {
@@ -120,7 +120,7 @@ fn any_bus(events: &[u8]) -> bool
 }
 
 // Whether a master may do these events: it holds the bus, or none of them is one of the bus.
-pub(crate) fn may_call(holder: Holder, master: Master, events: &[u8]) -> bool
+pub fn may_call(holder: Holder, master: Master, events: &[u8]) -> bool
     ensures { λ r. ⌜ r ≡ mayCall holder master (now (events .entry)) ⌝ }
 {
     if holds(holder, master) {
@@ -156,7 +156,7 @@ fn frees(events: &[u8]) -> bool
 }
 
 // Frees the bus, where a list of events that was answered frees it.
-pub(crate) fn free_after(events: &[u8], bus: &mut [u8])
+pub fn free_after(events: &[u8], bus: &mut [u8])
     requires { ⌜ length (now bus) ≡ 1 ⌝ }
     ensures { λ _. ⌜ now (bus .exit) ≡ busFreed (now (events .entry)) (now (bus .entry)) ⌝ }
 {

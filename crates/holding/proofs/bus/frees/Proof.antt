@@ -7,10 +7,10 @@ use mathlib.Core.Bool.{false}
 use denote.Ref.{now}
 use lib.ListN.{length, drop}
 use borrow.Author.Needs.{needs}
-use Rattle.handheld.specs.Bus.{frees}
-use Rattle.handheld.proofs.Lists.{frees-more, frees-end}
-use Rattle.handheld.proofs.bus.frees.Statement.{statement}
-use Rattle.handheld.proofs.bus.frees.Tie as tie
+use Rattle.holding.specs.Bus.{frees}
+use Rattle.holding.proofs.Lists.{frees-more, frees-end}
+use Rattle.holding.proofs.bus.frees.Statement.{statement}
+use Rattle.holding.proofs.bus.frees.Tie as tie
 
 abbrev Inv-loop : tie.InvT-loop
 Inv-loop events freed₀ i₀ freed i = (i ≤ length events) × (frees freed (drop i events) ≡ frees false events)

@@ -16,12 +16,12 @@ use lib.Dec.{leb, eqb}
 use lib.ListN.{length, getD}
 use Rattle.wire.specs.Machine.{start, stop, clock}
 use Rattle.device.specs.Event.{Happening, onWire, second, lost, gone, returned, happening}
-use Rattle.handheld.specs.declared.Master.{Master}
-use Rattle.handheld.specs.declared.Master.the-variants.{Rig, Handheld}
-use Rattle.handheld.specs.declared.Holder.{Holder}
-use Rattle.handheld.specs.declared.Holder.the-variants.{Nobody, Held}
-use Rattle.handheld.specs.declared.Standing.{Standing}
-use Rattle.handheld.specs.declared.Standing.the-variants.{Known, Unknown}
+use Rattle.holding.specs.declared.Master.{Master}
+use Rattle.holding.specs.declared.Master.the-variants.{Rig, Handheld}
+use Rattle.holding.specs.declared.Holder.{Holder}
+use Rattle.holding.specs.declared.Holder.the-variants.{Nobody, Held}
+use Rattle.holding.specs.declared.Standing.{Standing}
+use Rattle.holding.specs.declared.Standing.the-variants.{Known, Unknown}
 
 abbrev pub sameMaster : Master → Master → Bool
 sameMaster Rig Rig = true
