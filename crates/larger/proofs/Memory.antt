@@ -19,7 +19,7 @@ use Rattle.bus.proofs.Split.{split}
 use Rattle.family.specs.Chip.{lone, companion31, beaten}
 use Rattle.family.specs.Run.{runOf}
 use Rattle.family.proofs.Entry.{limits-of}
-use Rattle.rig31.proofs.Runs.{run-ok}
+use Rattle.run31.proofs.Runs.{run-ok}
 use Rattle.parts.specs.Events.{clockEvent, afterEvents}
 use Rattle.parts.specs.Stored.{BeatsKeep, Pulls}
 use Rattle.parts.proofs.Stored as stored

@@ -10,7 +10,8 @@ use lib.Dec.{leb}
 use borrow.Author.Tests.{lt-leb, leb-false}
 use Rattle.wire.proofs.Tests.{by-test}
 use Rattle.family.specs.Numbers.{lastEvent}
-use Rattle.rig31.specs.Run.{allKnown, Outcome}
+use Rattle.run31.specs.Run.{allKnown}
+use Rattle.rig31.specs.Run.{Outcome}
 use Rattle.rig31.proofs.Runs.{outcome-wrong-memory, outcome-wrong-image, outcome-unknown-event}
 use Rattle.rig31.proofs.Runs.{outcome-short-answers, outcome-written}
 use Rattle.larger.specs.Numbers.{UnknownIn, EveryNumber}

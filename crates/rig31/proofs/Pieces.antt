@@ -19,9 +19,11 @@ use Rattle.family.specs.Run.{following, answerTo, runOf}
 use Rattle.family.specs.declared.State.{State}
 use Rattle.family.proofs.Entry.{step-answered}
 use Rattle.rig31.specs.Image.{imageOf}
-use Rattle.rig31.specs.Run.{allKnown, Outcome, written, outcomeOf}
+use Rattle.run31.specs.Run.{allKnown}
+use Rattle.rig31.specs.Run.{Outcome, written, outcomeOf}
 use Rattle.rig31.proofs.Images.{decode-image, image-decode}
-use Rattle.rig31.proofs.Runs.{run-ok, outcome-written}
+use Rattle.run31.proofs.Runs.{run-ok}
+use Rattle.rig31.proofs.Runs.{outcome-written}
 use Rattle.rig31.proofs.Ends.{accepted-outcome, accepted-by}
 
 pub known-append : (xs ys : List ℕ) → allKnown (xs ++ ys) ≡ (allKnown xs && allKnown ys)

@@ -1,37 +1,23 @@
 -- SPDX-License-Identifier: Apache-2.0
 -- The list run over the size (01, Entries: "A second entry runs a list of events"), refusals too. `RunSettled` is the
 -- whole outcome of the two entries.
---   answersOver, RanThrough         the answers in their buffer; what a function returns and leaves
---   allKnown, Outcome, outcomeOf    every event byte is one of the ten; all that a caller can see of an entry
+--   Outcome, refused, written    all that a caller can see of the entry; under a number, and of events that were done
+--   onDecoded, outcomeOf         on what reading the image gave; on image, memory, events and answers
 -- Assumes nothing.
 use Prim.Native.Nat.{ℕ}
 use mathlib.Core.Path.{_≡_}
-use mathlib.Core.Bool.{Bool, true, cond, _&&_}
-use mathlib.Core.List.{List, [], _∷_, _++_}
+use mathlib.Core.Bool.{cond}
+use mathlib.Core.List.{List}
 use mathlib.Core.Option.{Option, some, none}
 use lib.Dec.{leb, eqb}
-use lib.ListN.{length, drop}
-use Rattle.family.specs.Numbers.{accepted, wrongMemory, unknownEvent, shortAnswers, lastEvent}
+use lib.ListN.{length}
+use Rattle.family.specs.Numbers.{accepted, wrongMemory, unknownEvent, shortAnswers}
 use Rattle.family.specs.Chip.{lone}
 use Rattle.family.specs.Run.{Ended, runOf}
 use Rattle.family.specs.declared.State.{State}
+use Rattle.run31.specs.Run.{answersOver, allKnown}
 use Rattle.rig31.specs.Image.{imageOf, decodeOf}
 use Rattle.rig31.specs.Reading.{decodedSays}
-
--- "Answer bytes past the events stay unchanged."
-abbrev pub answersOver : Ended → List ℕ → List ℕ → List ℕ
-answersOver r es a = r .answers ++ drop (length es) a
-
--- Auxiliary: what a function returns and leaves are those of a list of events.
-pub record RanThrough (size : ℕ) (s : State) (m es a : List ℕ) (r : State) (m′ a′ : List ℕ) : Type 0 where
-  pub state : r ≡ runOf size lone s m es .state
-  pub memory : m′ ≡ runOf size lone s m es .memory
-  pub answers : a′ ≡ answersOver (runOf size lone s m es) es a
-
--- No event byte is above 9.
-unfoldable pub allKnown : List ℕ → Bool
-allKnown [] = true
-allKnown (e ∷ es) = leb e lastEvent && allKnown es
 
 -- All that a caller of the list run can see of it. How many events were done is not said apart: all under 0, none else.
 pub record Outcome : Type 0 where

@@ -1,14 +1,10 @@
 // SPDX-License-Identifier: Apache-2.0
 // A list of events on a state's image and the lent buffers, and the fresh image. All that can be refused is tested
 // first. The state is read once, its limits hold through all events, and it is written once at the end.
-ghost use mathlib.Core.Path.{_≡_};
-ghost use mathlib.Core.Bool.{true};
-ghost use Prim.Native.Nat.{_≤_, _<_};
-ghost use lib.ListN.{length};
-ghost use Rattle.family.specs.Chip.{sizeOf, lone};
-ghost use Rattle.family.specs.Limits.{wellFormed};
+ghost use Prim.Native.Nat.{_<_};
+ghost use Rattle.family.specs.Chip.{sizeOf};
 ghost use Rattle.family.specs.declared.Size.the-variants.{Kb64, Kb256};
-ghost use Rattle.rig31.specs.Run.{allKnown, RanThrough, RunSettled};
+ghost use Rattle.rig31.specs.Run.{RunSettled};
 ghost use Rattle.rig31.specs.Fresh.{FreshSettled};
 use crate::Decoded;
 use crate::image::LENGTH;
@@ -17,7 +13,6 @@ use crate::image::image_of;
 use crate::image::write_image;
 use family::KB64;
 use family::KB256;
-use family::LAST_EVENT;
 use family::LONE;
 use family::State;
 use family::numbers::ACCEPTED;
@@ -26,45 +21,8 @@ use family::numbers::UNKNOWN_EVENT;
 use family::numbers::WRONG_MEMORY;
 use family::numbers::WRONG_STATE;
 use frame::bytes::copy;
-
-// Whether every event byte is one of the ten. All are tested, with no way out of the loop, so that many go at once.
-fn all_known(events: &[u8]) -> bool
-    ensures { λ r. ⌜ r ≡ allKnown (now (events .entry)) ⌝ }
-{
-    let mut known = true;
-    let mut i = 0;
-    while i < events.len() {
-        known = known & (events[i] <= LAST_EVENT);
-        i += 1;
-    }
-    known
-}
-
-// All events, one by one, from a well-formed state: the state they lead to. The answers go to the front of their
-// buffer.
-fn run_events(
-    state: State,
-    size: u16,
-    memory: &mut [u8],
-    events: &[u8],
-    answers: &mut [u8],
-) -> State
-    requires { ⌜ (wellFormed size lone state ≡ true) × (length (now memory) ≡ size) × (0 < size) ⌝ }
-    requires { ⌜ (allKnown (now events) ≡ true) × (length (now events) ≤ length (now answers)) ⌝ }
-    ensures { λ r. ⌜ RanThrough size state (now (memory .entry)) (now (events .entry)) (now (answers .entry))
-        r (now (memory .exit)) (now (answers .exit)) ⌝ }
-{
-    let mut at = state;
-    let mut i = 0;
-    while i < events.len() {
-        let done = at.advance(memory, size, LONE, events[i]);
-        answers[i] = done.answer;
-        let next = done.state;
-        at = next;
-        i += 1;
-    }
-    at
-}
+use run31::run::all_known;
+use run31::run::run_events;
 
 // The list run of a part of this size: refused by the first number that fits, with nothing written; or every event
 // done, its answer written, and the image of the state that the events lead to.

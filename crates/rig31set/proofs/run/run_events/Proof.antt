@@ -9,7 +9,7 @@ use borrow.Author.Needs.{needs}
 use Rattle.set31.specs.Outcome.{lentTo, SetFit}
 use Rattle.rig31set.specs.Run.{following, runOf}
 use Rattle.set31.proofs.Kept.{set-fit-next}
-use Rattle.rig31.proofs.Runs.{rest-kept}
+use Rattle.run31.proofs.Runs.{rest-kept}
 use Rattle.rig31set.proofs.Runs.{run-turn, run-done}
 use Rattle.rig31set.proofs.run.run_events.Statement.{statement}
 use Rattle.rig31set.proofs.run.run_events.Tie as tie

@@ -7,10 +7,10 @@ use mathlib.Core.Bool.{_&&_}
 use denote.Ref.{now}
 use lib.ListN.{length, drop}
 use borrow.Author.Needs.{needs}
-use Rattle.rig31.specs.Run.{allKnown}
-use Rattle.rig31.proofs.Runs.{known-more, known-end}
-use Rattle.rig31.proofs.run.all_known.Statement.{statement}
-use Rattle.rig31.proofs.run.all_known.Tie as tie
+use Rattle.run31.specs.Run.{allKnown}
+use Rattle.run31.proofs.Runs.{known-more, known-end}
+use Rattle.run31.proofs.run.all_known.Statement.{statement}
+use Rattle.run31.proofs.run.all_known.Tie as tie
 
 abbrev Inv-loop : tie.InvT-loop
 Inv-loop events known₀ i₀ known i = (i ≤ length events) × ((known && allKnown (drop i events)) ≡ allKnown events)
