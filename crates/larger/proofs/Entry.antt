@@ -19,14 +19,14 @@ use Rattle.family.specs.Chip.{lone, eventOf}
 use Rattle.family.specs.Run.{Ended, runOf, answerTo}
 use Rattle.family.specs.declared.State.{State}
 use Rattle.family.proofs.Lock.{serial-locked}
-use Rattle.rig31.specs.Image.{imageOf, decodeOf}
+use Rattle.image31.specs.Image.{imageOf, decodeOf}
 use Rattle.run31.specs.Run.{allKnown}
 use Rattle.rig31.specs.Run.{Outcome, outcomeOf}
 use Rattle.rig31.specs.Single.{singleOf}
 use Rattle.rig31.specs.Single as Single
-use Rattle.rig31.specs.declared.Decoded.{Decoded}
-use Rattle.rig31.specs.declared.Decoded.the-variants.{Good, Bad}
-use Rattle.rig31.proofs.Images.{image-decode, decode-image}
+use Rattle.image31.specs.declared.Decoded.{Decoded}
+use Rattle.image31.specs.declared.Decoded.the-variants.{Good, Bad}
+use Rattle.image31.proofs.Images.{image-decode, decode-image}
 use Rattle.run31.proofs.Runs.{run-ok}
 use Rattle.rig31.proofs.Runs.{outcome-written}
 use Rattle.rig31.proofs.Ends.{Accepted, accepted-outcome, accepted-by, run-refused}

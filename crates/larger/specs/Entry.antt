@@ -16,10 +16,10 @@ use Rattle.counters.specs.Map.{SNL}
 use Rattle.family.specs.Chip.{lone}
 use Rattle.family.specs.Numbers.{accepted}
 use Rattle.family.specs.declared.State.{State}
-use Rattle.rig31.specs.Image.{decodeOf}
+use Rattle.image31.specs.Image.{decodeOf}
 use Rattle.rig31.specs.Run.{outcomeOf}
 use Rattle.rig31.specs.Single.{singleOf}
-use Rattle.rig31.specs.declared.Decoded.the-variants.{Good}
+use Rattle.image31.specs.declared.Decoded.the-variants.{Good}
 use Rattle.parts.specs.Events.{clockEvent}
 use Rattle.parts.specs.Stored.{Byte, AtData, StoredAt}
 use Rattle.larger.specs.Memory.{Protected, BeforeEach}

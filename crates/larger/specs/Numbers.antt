@@ -8,9 +8,9 @@ use mathlib.Core.List.{List, _∷_, _++_}
 use lib.ListN.{length}
 use Rattle.family.specs.Chip.{lone}
 use Rattle.family.specs.declared.State.{State}
-use Rattle.rig31.specs.Image.{decodeOf}
+use Rattle.image31.specs.Image.{decodeOf}
 use Rattle.rig31.specs.Run.{refused, outcomeOf}
-use Rattle.rig31.specs.declared.Decoded.the-variants.{Good, Bad}
+use Rattle.image31.specs.declared.Decoded.the-variants.{Good, Bad}
 
 -- An event byte from 10 on stands in the list.
 pub record UnknownIn (es : List ℕ) : Type 0 where

@@ -15,12 +15,12 @@ use Rattle.family.specs.Numbers.{accepted}
 use Rattle.family.specs.Chip.{lone}
 use Rattle.family.specs.Run.{runOf}
 use Rattle.family.specs.declared.State.{State}
-use Rattle.rig31.specs.Image.{decodeOf}
+use Rattle.image31.specs.Image.{decodeOf}
 use Rattle.run31.specs.Run.{allKnown}
 use Rattle.rig31.specs.Run.{Outcome, refused, written, outcomeOf}
-use Rattle.rig31.specs.declared.Decoded.{Decoded}
-use Rattle.rig31.specs.declared.Decoded.the-variants.{Good, Bad}
-use Rattle.rig31.proofs.Images.{decode-image, image-decode}
+use Rattle.image31.specs.declared.Decoded.{Decoded}
+use Rattle.image31.specs.declared.Decoded.the-variants.{Good, Bad}
+use Rattle.image31.proofs.Images.{decode-image, image-decode}
 use Rattle.run31.proofs.Runs.{run-ok}
 use Rattle.rig31.proofs.Runs.{outcome-wrong-memory, outcome-wrong-image, outcome-unknown-event}
 use Rattle.rig31.proofs.Runs.{outcome-short-answers, outcome-written}

@@ -1,5 +1,4 @@
 -- SPDX-License-Identifier: Apache-2.0
-pub mod Images
 pub mod Runs
 pub mod Ends
 pub mod Pieces

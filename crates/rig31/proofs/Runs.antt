@@ -12,9 +12,9 @@ use Rattle.family.specs.Chip.{lone}
 use Rattle.family.specs.Run.{runOf}
 use Rattle.family.specs.declared.State.{State}
 use Rattle.run31.specs.Run.{RanThrough, allKnown}
-use Rattle.rig31.specs.Image.{imageOf, decodeOf}
+use Rattle.image31.specs.Image.{imageOf, decodeOf}
 use Rattle.rig31.specs.Run.{refused, written, outcomeOf}
-use Rattle.rig31.specs.declared.Decoded.the-variants.{Good, Bad}
+use Rattle.image31.specs.declared.Decoded.the-variants.{Good, Bad}
 
 module _ (size : ℕ) where
   module _ (i m es a : List ℕ) where

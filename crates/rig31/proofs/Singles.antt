@@ -10,8 +10,8 @@ use borrow.Author.Tests.{eq-eqb, ne-eqb, le-leb, lt-leb}
 use Rattle.family.specs.Numbers.{wrongMemory, wrongState, unknownEvent, shortAnswers, lastEvent}
 use Rattle.family.specs.Chip.{lone, eventOf}
 use Rattle.family.specs.declared.State.{State}
-use Rattle.rig31.specs.Image.{decodeOf}
-use Rattle.rig31.specs.declared.Decoded.the-variants.{Good, Bad}
+use Rattle.image31.specs.Image.{decodeOf}
+use Rattle.image31.specs.declared.Decoded.the-variants.{Good, Bad}
 use Rattle.rig31.specs.Single.{refused, answered, singleOf}
 
 module _ (size : ℕ) (i m : List ℕ) (e : ℕ) (t : List ℕ) where

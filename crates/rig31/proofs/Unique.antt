@@ -6,15 +6,10 @@ use Prim.Native.Nat.{ℕ}
 use mathlib.Core.Path.{_≡_, sym, _∙_}
 use mathlib.Core.List.{List}
 use denote.Ref.{RefT}
-use Rattle.family.specs.declared.State.{State}
-use Rattle.rig31.specs.Image.{imageOf}
-use Rattle.rig31.specs.Reading.{DecodeSettled}
 use Rattle.rig31.specs.Run.{RunSettled}
 use Rattle.rig31.specs.Fresh.{FreshSettled}
 use Rattle.rig31.specs.Single.{SingleSettled}
 use Rattle.rig31.specs.View.{ViewNumberSettled, ViewSettled}
-use Rattle.rig31.specs.declared.Decoded.{Decoded}
-use Rattle.rig31.proofs.Images.{settled-decode}
 
 module _ (size : ℕ) where
   -- the list run: number, image, memory and answers
@@ -41,15 +36,6 @@ module _ (size : ℕ) where
   pub view-number-unique : (i m : List ℕ) (selector start len n n₂ : ℕ)
       → ViewNumberSettled size i m selector start len n → ViewNumberSettled size i m selector start len n₂ → n ≡ n₂
   view-number-unique i m selector start len n n₂ p q = p ∙ sym q
-
-  -- reading an image
-  pub decode-unique : (select : ℕ) (i : List ℕ) (r r₂ : Decoded) → DecodeSettled size select i r
-      → DecodeSettled size select i r₂ → r ≡ r₂
-  decode-unique select i r r₂ p q = sym (settled-decode size select i r p) ∙ settled-decode size select i r₂ q
-
--- writing an image
-pub image-unique : (s : State) (i i₂ : List ℕ) → i ≡ imageOf s → i₂ ≡ imageOf s → i ≡ i₂
-image-unique s i i₂ p q = p ∙ sym q
 
 -- the fresh image: number and image
 pub fresh-unique : (i : List ℕ) (n n₂ : ℕ) (i′ i₂ : List ℕ)

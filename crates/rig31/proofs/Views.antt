@@ -15,7 +15,7 @@ use lib.Seq.{length-take-le}
 use borrow.Author.Tests.{eq-eqb, ne-eqb, leb-true, eqb-true}
 use Rattle.counters.specs.Map.{COUNT}
 use Rattle.family.specs.Numbers.{accepted, wrongMemory, wrongState, unknownSelector, pastTheEnd}
-use Rattle.rig31.specs.Image.{imageSize}
+use Rattle.image31.specs.Image.{imageSize}
 use Rattle.rig31.specs.View.{registersIn, endNumber, viewNumber, viewOf, shifted, viewPlace, ViewSettled}
 
 module _ (size : ℕ) (i m : List ℕ) (selector start len : ℕ) where

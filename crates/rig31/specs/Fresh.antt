@@ -10,7 +10,7 @@ use lib.Dec.{eqb}
 use lib.ListN.{length}
 use Rattle.family.specs.Numbers.{accepted, wrongState}
 use Rattle.family.specs.Chip.{fresh}
-use Rattle.rig31.specs.Image.{imageSize, imageOf}
+use Rattle.image31.specs.Image.{imageSize, imageOf}
 
 -- What the entry returns, and the buffer it leaves.
 pub record Made : Type 0 where

@@ -16,8 +16,8 @@ use Rattle.family.specs.Chip.{lone}
 use Rattle.family.specs.Run.{Ended, runOf}
 use Rattle.family.specs.declared.State.{State}
 use Rattle.run31.specs.Run.{answersOver, allKnown}
-use Rattle.rig31.specs.Image.{imageOf, decodeOf}
-use Rattle.rig31.specs.Reading.{decodedSays}
+use Rattle.image31.specs.Image.{imageOf, decodeOf}
+use Rattle.image31.specs.Reading.{decodedSays}
 
 -- All that a caller of the list run can see of it. How many events were done is not said apart: all under 0, none else.
 pub record Outcome : Type 0 where

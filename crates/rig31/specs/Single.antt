@@ -15,8 +15,8 @@ use Rattle.family.specs.Numbers.{accepted, wrongMemory, unknownEvent, shortAnsw
 use Rattle.family.specs.Chip.{lone, Done, eventOf}
 use Rattle.family.specs.Step.{stateOf, answerByte}
 use Rattle.family.specs.declared.State.{State}
-use Rattle.rig31.specs.Image.{imageOf, decodeOf}
-use Rattle.rig31.specs.Reading.{decodedSays}
+use Rattle.image31.specs.Image.{imageOf, decodeOf}
+use Rattle.image31.specs.Reading.{decodedSays}
 
 -- What a caller of the entry can see of it.
 pub record Outcome : Type 0 where

@@ -15,7 +15,7 @@ use lib.Dec.{leb, eqb}
 use lib.ListN.{length, take, drop}
 use Rattle.counters.specs.Map.{COUNT}
 use Rattle.family.specs.Numbers.{accepted, wrongMemory, wrongState, unknownSelector, pastTheEnd}
-use Rattle.rig31.specs.Image.{imageSize}
+use Rattle.image31.specs.Image.{imageSize}
 
 -- "The image begins with these 16 registers."
 abbrev pub registersIn : List ℕ → List ℕ

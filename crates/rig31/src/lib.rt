@@ -2,19 +2,9 @@
 // What a host program calls for the larger family: a list of events and one event on a state's image and the lent
 // buffers, the fresh image, and the viewer; for each size a function of its own over one that takes the size.
 //
-// image   a state's 64 bytes, and the state that writes them
-// run     the list run, and the fresh image
-// step    one event
-// view    a part of the caller's memory or registers, and its number
-use family::State;
-
-pub mod image;
+// run    the list run, and the fresh image
+// step   one event
+// view   a part of the caller's memory or registers, and its number
 pub mod run;
 pub mod step;
 pub mod view;
-
-// What reading an image gives: the well-formed state that writes it, or none.
-pub enum Decoded {
-    Good(State),
-    Bad,
-}

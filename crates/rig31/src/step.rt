@@ -4,9 +4,6 @@ ghost use Prim.Native.Nat.{_<_};
 ghost use Rattle.family.specs.Chip.{sizeOf};
 ghost use Rattle.family.specs.declared.Size.the-variants.{Kb64, Kb256};
 ghost use Rattle.rig31.specs.Single.{SingleSettled};
-use crate::Decoded;
-use crate::image::decode;
-use crate::image::write_image;
 use family::KB64;
 use family::KB256;
 use family::LAST_EVENT;
@@ -16,6 +13,9 @@ use family::numbers::SHORT_ANSWERS;
 use family::numbers::UNKNOWN_EVENT;
 use family::numbers::WRONG_MEMORY;
 use family::numbers::WRONG_STATE;
+use image31::Decoded;
+use image31::image::decode;
+use image31::image::write_image;
 
 // The bytes that are told of an event: its answer byte.
 pub const TOLD: usize = 1;

@@ -5,7 +5,6 @@ ghost use Prim.Native.Nat.{_+_};
 ghost use Rattle.family.specs.Chip.{sizeOf};
 ghost use Rattle.family.specs.declared.Size.the-variants.{Kb64, Kb256};
 ghost use Rattle.rig31.specs.View.{endNumber, ViewNumberSettled, ViewSettled};
-use crate::image::LENGTH;
 use counters::map::COUNT;
 use family::KB64;
 use family::KB256;
@@ -14,6 +13,7 @@ use family::numbers::PAST_THE_END;
 use family::numbers::UNKNOWN_SELECTOR;
 use family::numbers::WRONG_MEMORY;
 use family::numbers::WRONG_STATE;
+use image31::image::LENGTH;
 
 // The registers at the front of an image.
 const REGISTERS: usize = COUNT as usize;

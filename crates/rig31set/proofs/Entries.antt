@@ -14,13 +14,13 @@ use Rattle.set31.specs.Numbers.{wrongCount, equalSelects}
 use Rattle.set31.specs.Set.{Together}
 use Rattle.set31.specs.Make.{isLent, isWithin, placesAre, selectsDiffer, countFits, makeNumber}
 use Rattle.set31.specs.Outcome.{lentTo, SetFit}
-use Rattle.rig31.specs.Image.{imageSize}
-use Rattle.rig31set.specs.Read.{readingOf}
-use Rattle.rig31set.specs.Run.{RanThrough, allKnown}
-use Rattle.rig31set.specs.Write.{imagesOf}
+use Rattle.image31.specs.Image.{imageSize}
+use Rattle.image31set.specs.Read.{readingOf}
+use Rattle.run31set.specs.Run.{RanThrough, allKnown}
+use Rattle.image31set.specs.Write.{imagesOf}
 use Rattle.rig31set.specs.Entry.{checkOf, runNumber, outcome, runOutcome}
-use Rattle.rig31set.specs.declared.Reading.{Reading}
-use Rattle.rig31set.proofs.Readings.{reading-length, reading-within}
+use Rattle.image31set.specs.declared.Reading.{Reading}
+use Rattle.image31set.proofs.Readings.{reading-length, reading-within}
 
 -- whether a set can be made
 module _ (plan images a b c d : List ℕ) (r : Reading) (e : r ≡ readingOf plan images) where

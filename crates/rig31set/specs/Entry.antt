@@ -16,9 +16,9 @@ use Rattle.set31.specs.Numbers.{wrongCount, equalSelects}
 use Rattle.set31.specs.Set.{Together}
 use Rattle.set31.specs.Make.{isLent, placesAre, selectsDiffer, countFits, makeNumber}
 use Rattle.set31.specs.Outcome.{lentTo}
-use Rattle.rig31set.specs.Read.{readingOf}
-use Rattle.rig31set.specs.Run.{Ended, answersOver, runOf, allKnown}
-use Rattle.rig31set.specs.Write.{imagesOf}
+use Rattle.image31set.specs.Read.{readingOf}
+use Rattle.run31set.specs.Run.{Ended, answersOver, runOf, allKnown}
+use Rattle.image31set.specs.Write.{imagesOf}
 
 -- "Refused when the set is made": 1 a memory of the wrong length for its device's size; 2 a byte of the plan above
 -- 7, not 64 bytes of image a device, or an image that no well-formed state of that size and those select bits writes;

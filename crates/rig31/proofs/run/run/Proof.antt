@@ -8,10 +8,10 @@ use lib.ListN.{length}
 use borrow.Author.Needs.{needs}
 use borrow.Author.Tests.{not-true, not-false}
 use Rattle.family.specs.Chip.{lone}
-use Rattle.rig31.specs.declared.Decoded.the-variants.{Good}
+use Rattle.image31.specs.declared.Decoded.the-variants.{Good}
 use Rattle.run31.specs.Run.{allKnown}
-use Rattle.rig31.specs.Image.{decodeOf}
-use Rattle.rig31.proofs.Images.{settled-decode, image-decode, decoded-length}
+use Rattle.image31.specs.Image.{decodeOf}
+use Rattle.image31.proofs.Images.{settled-decode, image-decode, decoded-length}
 use Rattle.rig31.proofs.Runs.{outcome-wrong-memory, outcome-wrong-image, outcome-unknown-event}
 use Rattle.rig31.proofs.Runs.{outcome-short-answers, outcome-done}
 use Rattle.rig31.proofs.run.run.Statement.{statement}

@@ -7,9 +7,9 @@ use lib.ListN.{length}
 use borrow.Author.Needs.{needs}
 use Rattle.family.proofs.Entry.{ready}
 use Rattle.family.specs.Chip.{lone}
-use Rattle.rig31.specs.declared.Decoded.the-variants.{Good}
-use Rattle.rig31.specs.Image.{decodeOf}
-use Rattle.rig31.proofs.Images.{settled-decode, image-decode, decoded-length}
+use Rattle.image31.specs.declared.Decoded.the-variants.{Good}
+use Rattle.image31.specs.Image.{decodeOf}
+use Rattle.image31.proofs.Images.{settled-decode, image-decode, decoded-length}
 use Rattle.rig31.proofs.Singles.{single-wrong-memory, single-wrong-image, single-unknown-event, single-short}
 use Rattle.rig31.proofs.Singles.{single-answered, front-set}
 use Rattle.rig31.proofs.step.step.Statement.{statement}

@@ -8,7 +8,7 @@ use lib.ListN.{length}
 use borrow.Author.Needs.{needs}
 use Rattle.set31.specs.Set.{Together}
 use Rattle.set31.specs.Outcome.{lentTo, SetFit}
-use Rattle.rig31.specs.Image.{imageSize}
+use Rattle.image31.specs.Image.{imageSize}
 use Rattle.rig31set.proofs.Entries.{run-refused, images-long, room-enough, set-fit, run-written}
 use Rattle.rig31set.proofs.entry.fm31_set_run.Statement.{statement}
 use Rattle.rig31set.proofs.entry.fm31_set_run.Tie as tie

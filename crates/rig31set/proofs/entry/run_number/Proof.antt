@@ -9,7 +9,7 @@ use borrow.Author.Tests.{not-true, not-false}
 use Rattle.set31.specs.Set.{Together}
 use Rattle.set31.specs.Make.{isLent, placesAre, countFits}
 use Rattle.set31.specs.Outcome.{lentTo}
-use Rattle.rig31set.specs.Run.{allKnown}
+use Rattle.run31set.specs.Run.{allKnown}
 use Rattle.rig31set.proofs.Entries.{run-wrong-memory, run-wrong-state, run-unknown-event, run-short-answers}
 use Rattle.rig31set.proofs.Entries.{run-wrong-count, run-equal-selects, run-accepted}
 use Rattle.rig31set.proofs.entry.run_number.Statement.{statement}
