@@ -158,10 +158,12 @@ else
 endif
 
 fuzz: lib ## chosen bytes at the archive's C boundary, three targets for SECONDS=200 each
+fuzz: lib ## chosen bytes at the archive's C boundary, four targets for SECONDS=200 each
 	@tools/setup.sh fuzz
 	@tools/fuzz.sh $(SECONDS) entries
 	@tools/fuzz.sh $(SECONDS) captures
 	@tools/fuzz.sh $(SECONDS) family
+	@tools/fuzz.sh $(SECONDS) sets
 
 fmt: ## format all Rattle and Rust files
 	@rt fmt

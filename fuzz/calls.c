@@ -35,7 +35,7 @@ static size_t choose_memory_length(const struct limits *limits, struct choices *
 }
 
 /* At least one byte an event, or too few. */
-static size_t answers_length(uint8_t choice, uint8_t way, size_t events)
+size_t answers_length(uint8_t choice, uint8_t way, size_t events)
 {
     size_t some = choice % 64;
     if (way % 8 == 7)
@@ -55,7 +55,7 @@ static void scatter(struct choices *choices, struct buffer buffer, unsigned coun
 }
 
 /* A byte on the bus: one beside a limit, or any. */
-static uint8_t choose_bus_byte(const struct part *part, struct choices *choices)
+uint8_t choose_bus_byte(const struct part *part, struct choices *choices)
 {
     uint8_t choice = choose_byte(choices);
     return choice & 1 ? part->beside[choice / 2 % BESIDE] : choose_byte(choices);
@@ -103,7 +103,7 @@ static void choose_quarter(const struct limits *limits, struct choices *choices,
 }
 
 /* The fresh image, one within the limits, or any bytes; then a few bytes are changed. */
-static void fill_image(const struct part *part, struct choices *choices, struct buffer image, uint8_t way)
+void fill_image(const struct part *part, struct choices *choices, struct buffer image, uint8_t way)
 {
     uint8_t chosen[IMAGE_BYTES];
     hold(part->fresh(chosen, IMAGE_BYTES) == ACCEPTED, "the fresh image is written");
@@ -120,7 +120,7 @@ static void fill_image(const struct part *part, struct choices *choices, struct 
     scatter(choices, image, way % 8 == 3 ? way / 8 % 8 : 0);
 }
 
-static void fill_memory(struct choices *choices, struct buffer memory)
+void fill_memory(struct choices *choices, struct buffer memory)
 {
     memset(memory.start, choose_byte(choices), memory.length);
     scatter(choices, memory, choose_byte(choices) % 8);
@@ -129,7 +129,7 @@ static void fill_memory(struct choices *choices, struct buffer memory)
 /* ---- events */
 
 /* A register's address, or the one beside either end. */
-static uint8_t choose_register_byte(const struct limits *limits, struct choices *choices)
+uint8_t choose_register_byte(const struct limits *limits, struct choices *choices)
 {
     return (uint8_t)(limits->lowest_register - 1 + choose_byte(choices) % (limits->register_bytes + 2));
 }

@@ -55,6 +55,13 @@ void lay_fences(void);
 /* The call that the input chooses; all that is left of the input becomes events. */
 struct call choose_call(const struct part *part, struct choices *choices);
 
+/* Pieces of such a choice, for a call on several devices. */
+size_t answers_length(uint8_t choice, uint8_t way, size_t events);
+uint8_t choose_bus_byte(const struct part *part, struct choices *choices);
+uint8_t choose_register_byte(const struct limits *limits, struct choices *choices);
+void fill_image(const struct part *part, struct choices *choices, struct buffer image, uint8_t way);
+void fill_memory(struct choices *choices, struct buffer memory);
+
 void keep(struct contents *contents, struct call call);
 void copy(struct contents *to, const struct contents *from, struct call call);
 void restore(struct call call, const struct contents *contents);

@@ -38,6 +38,7 @@ enum { POR = 0x40, LB = 0x20, SNL = 0x80, RC = 0x08, CC = 0x04 };
 /* A device without its memory, of which it knows the size. */
 struct family {
     unsigned size;
+    unsigned select;
     uint8_t registers[REGISTERS];
     uint8_t snapshot[COUNTER_BYTES];
     uint8_t register_address;
@@ -141,9 +142,10 @@ static void enter(struct family *family, uint8_t phase)
     family->first_address_byte = 0;
 }
 
-static uint8_t phase_named_by(uint8_t slave_byte)
+/* Bits 2 and 1 of a slave byte are those that select a device. */
+static uint8_t phase_named_by(struct family *family, uint8_t slave_byte)
 {
-    switch (slave_byte) {
+    switch (slave_byte ^ family->select << 1) {
     case 0xA0: return FIRST_ADDRESS;
     case 0xA1: return FROM_MEMORY;
     case 0xD0: return REGISTER_ADDRESS;
@@ -174,7 +176,7 @@ static void take_byte(struct family *family, uint8_t *memory)
 {
     switch (family->phase) {
     case SLAVE_BYTE:
-        if (phase_named_by(family->byte) == BETWEEN)
+        if (phase_named_by(family, family->byte) == BETWEEN)
             enter(family, BETWEEN);
         break;
     case SECOND_ADDRESS:
@@ -195,7 +197,7 @@ static void acknowledge(struct family *family)
 {
     uint8_t byte = family->byte;
     switch (family->phase) {
-    case SLAVE_BYTE: enter(family, phase_named_by(byte)); break;
+    case SLAVE_BYTE: enter(family, phase_named_by(family, byte)); break;
     case FIRST_ADDRESS:
         enter(family, SECOND_ADDRESS);
         family->first_address_byte = byte;
@@ -306,9 +308,10 @@ static uint8_t one_event(struct family *family, uint8_t *memory, uint8_t event)
     return 1;
 }
 
-static struct family read_image(unsigned size, const uint8_t *image)
+static struct family read_image(unsigned size, unsigned select, const uint8_t *image)
 {
     struct family family = {.size = size,
+                            .select = select,
                             .register_address = image[22],
                             .memory_address = image[23] * 256u + image[24],
                             .supplies = image[25],
@@ -338,9 +341,10 @@ static void write_image(const struct family *family, uint8_t *image)
     memcpy(&image[61], mark, sizeof mark);
 }
 
-void family_run(unsigned size, uint8_t *image, uint8_t *memory, const uint8_t *events, size_t count, uint8_t *answers)
+void family_run(unsigned size, unsigned select, uint8_t *image, uint8_t *memory, const uint8_t *events, size_t count,
+                uint8_t *answers)
 {
-    struct family family = read_image(size, image);
+    struct family family = read_image(size, select, image);
     for (size_t i = 0; i < count; i++)
         answers[i] = one_event(&family, memory, events[i]);
     write_image(&family, image);

@@ -7,8 +7,12 @@
 #include <stddef.h>
 #include <stdint.h>
 
-/* All events, each 0 to 9, one by one on a device with a memory of `size` bytes, from an image that is accepted to the
- * image that they lead to; `answers` has room for one byte an event. */
-void family_run(unsigned size, uint8_t *image, uint8_t *memory, const uint8_t *events, size_t count, uint8_t *answers);
+/* The select bits of a device alone on its line. */
+enum { LONE = 0 };
+
+/* All events, each 0 to 9, one by one on a device with a memory of `size` bytes and these select bits, from an image that
+ * is accepted to the image that they lead to; `answers` has room for one byte an event. */
+void family_run(unsigned size, unsigned select, uint8_t *image, uint8_t *memory, const uint8_t *events, size_t count,
+                uint8_t *answers);
 
 #endif

@@ -57,9 +57,10 @@ static int addresses_are_within(const struct limits *limits, const uint8_t *imag
     return is_a_register(limits, image[COMPANION_PLACE]) && memory_address < limits->memory_bytes;
 }
 
-static int names_somebody(uint8_t slave_byte)
+static int names_somebody(const struct limits *limits, uint8_t slave_byte)
 {
-    return slave_byte == 0xA0 || slave_byte == 0xA1 || slave_byte == 0xD0 || slave_byte == 0xD1;
+    int lone = slave_byte ^ limits->select << 1;
+    return lone == 0xA0 || lone == 0xA1 || lone == 0xD0 || lone == 0xD1;
 }
 
 /* The limits of bytes 26 to 29. */
@@ -70,7 +71,7 @@ static int transfer_is_within(const struct limits *limits, uint8_t phase, uint8_
         return 0;
     switch (phase) {
     case 0: return clocks == 0 && byte == 0;
-    case 1: return fits && (clocks < 8 || names_somebody(byte));
+    case 1: return fits && (clocks < 8 || names_somebody(limits, byte));
     case 2:
     case 3:
     case 5:

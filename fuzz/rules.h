@@ -14,7 +14,10 @@ enum {
     SHORT_ANSWERS,
     UNKNOWN_SELECTOR,
     PAST_THE_END,
-    TOO_MANY_TICKS = 8
+    TOO_MANY_TICKS = 8,
+    WRONG_COUNT,
+    EQUAL_SELECTS,
+    IN_TRANSFER
 };
 
 enum { IMAGE_BYTES = 64, MEMORY_BYTES = 8192, LARGE_MEMORY_BYTES = 32768, MOST_TICKS = 31622400 };
@@ -22,7 +25,7 @@ enum { IMAGE_BYTES = 64, MEMORY_BYTES = 8192, LARGE_MEMORY_BYTES = 32768, MOST_T
 /* Byte places in an image, the same in every part. */
 enum { COMPANION_PLACE = 22, MEMORY_PLACE = 23, SUPPLIES_PLACE = 25, PHASE_PLACE = 26, FRONT_BYTES = 22 };
 
-/* What a part allows. The front of an image is all before the addresses: registers, and the calendar's core or the
+/* What a part allows; `select` are the select bits of a device of a set. The front of an image is all before the addresses: registers, and the calendar's core or the
  * snapshot; `free_bits` are the bits of it that are not fixed at 0. WP1 and WP0 are bits 4 and 3 of byte
  * `protection_place`. */
 struct limits {
@@ -33,6 +36,7 @@ struct limits {
     uint8_t highest_event;
     uint8_t told_bytes;
     uint8_t protection_place;
+    uint8_t select;
     uint8_t free_bits[FRONT_BYTES];
     uint8_t mark[3];
 };

@@ -2,8 +2,8 @@
 # SPDX-License-Identifier: Apache-2.0
 # fuzz.sh SECONDS [TARGET]: builds a fuzz target over the proved archive for this machine and runs it for so long, on one
 # core and at low priority. TARGET is entries (those of the FM3130's device and of its master, which is meant if none is
-# named), captures (the judge of captures) or family (the larger family's device). What is written, all below the
-# repository's top, in build/fuzz for entries and in build/fuzz/TARGET for the others:
+# named), captures (the judge of captures), family (the larger family's device) or sets (several of these on one line).
+# What is written, all below the repository's top, in build/fuzz for entries and in build/fuzz/TARGET for the others:
 #
 #   TARGET      the target
 #   corpus      inputs that reach something new; the next run begins with them
@@ -13,7 +13,7 @@ set -eu
 
 fail() { printf 'fuzz: %s\n' "$*" >&2; exit 1; }
 
-usage() { fail "usage: fuzz.sh SECONDS [entries|captures|family]"; }
+usage() { fail "usage: fuzz.sh SECONDS [entries|captures|family|sets]"; }
 
 [ $# -ge 1 ] && [ $# -le 2 ] || usage
 seconds=$1
@@ -25,7 +25,8 @@ entries)
     out=build/fuzz
     ;;
 captures) sources="fuzz/captures.c fuzz/verdicts.c bench/plain.c" ;;
-family) sources="fuzz/family.c fuzz/family_plain.c fuzz/calls.c fuzz/holding.c" ;;
+family) sources="fuzz/family.c fuzz/family_parts.c fuzz/family_plain.c fuzz/calls.c fuzz/holding.c" ;;
+sets) sources="fuzz/sets.c fuzz/set_calls.c fuzz/family_parts.c fuzz/family_plain.c fuzz/calls.c" ;;
 *) usage ;;
 esac
 cd "$(dirname "$0")/.."
