@@ -133,6 +133,23 @@ static void choose_memories(struct choices *choices, struct set_call *call, uint
     }
 }
 
+/* One of the four slave bytes, with select bits of the set or others. */
+static uint8_t slave_byte(uint8_t choice)
+{
+    static const uint8_t lone[4] = {0xA0, 0xA1, 0xD0, 0xD1};
+    return lone[choice & 3] | (uint8_t)((choice >> 2 & 3) << 1);
+}
+
+/* A device that has a whole slave byte and is about to acknowledge it. */
+static void choose_called(struct choices *choices, uint8_t *image)
+{
+    image[SUPPLIES_PLACE] = 0;
+    image[PHASE_PLACE] = 1;
+    image[PHASE_PLACE + 1] = 8;
+    image[PHASE_PLACE + 2] = slave_byte(choose_byte(choices));
+    image[PHASE_PLACE + 3] = 0;
+}
+
 /* Fresh images or any that a device can have, mostly one a device; half of the time between transfers. */
 static void choose_images(struct choices *choices, struct set_call *call, int at_the_end)
 {
@@ -146,8 +163,8 @@ static void choose_images(struct choices *choices, struct set_call *call, int at
         struct buffer image = {.start = &call->images.start[IMAGE_BYTES * place], .length = IMAGE_BYTES};
         uint8_t image_way = choose_byte(choices);
         fill_image(part_at(call, place), choices, image, way & 0x80 ? image_way & 0x87 : image_way);
-        if (image.start[PHASE_PLACE] == 1 && image.start[PHASE_PLACE + 1] == 8)
-            image.start[PHASE_PLACE + 2] ^= (uint8_t)((call->plan.start[place] & 3) << 1);
+        if (image_way % 16 == 1)
+            choose_called(choices, image.start);
     }
 }
 
@@ -155,17 +172,15 @@ static void choose_images(struct choices *choices, struct set_call *call, int at
  * write up to its address byte. */
 static void add_traffic(struct choices *choices, const struct set_call *call, struct list *list)
 {
-    static const uint8_t slave_bytes[4] = {0xA0, 0xA1, 0xD0, 0xD1};
     uint8_t kind = choose_byte(choices);
-    uint8_t select = (uint8_t)((kind >> 2 & 3) << 1);
     if (kind < 0x60) {
         add_event(list, (uint8_t)(kind % (8 + 2 * devices_of(call))));
     } else if (kind < 0xC0) {
         add_byte(list, choose_bus_byte(&family_parts[0], choices), kind & 1);
     } else if (kind < 0xE0) {
-        add_slave_byte(list, slave_bytes[kind & 3] | select);
+        add_slave_byte(list, slave_byte(kind));
     } else {
-        add_slave_byte(list, 0xD0 | select);
+        add_slave_byte(list, slave_byte((kind & 0x0C) | 2));
         add_byte(list, choose_register_byte(&fm3164_limits, choices), 1);
     }
 }

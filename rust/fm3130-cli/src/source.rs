@@ -1,11 +1,13 @@
 // SPDX-License-Identifier: Apache-2.0
 //! Where events come from, a chunk at a time, so that a long run needs no long list.
 
+use std::fmt;
 use std::fs::File;
 use std::io::Read;
 use std::path::{Path, PathBuf};
 
 use fm3130::event;
+use fm3130::family::edge_2;
 
 use crate::chip::Part;
 use crate::failure::{Failure, Outcome};
@@ -134,11 +136,22 @@ impl FileSource {
     /// Opens an event file for a part and tests all its bytes, as 01 asks: "all events are tested before the
     /// first is done".
     pub fn open(path: &Path, part: Part) -> Outcome<FileSource> {
+        FileSource::open_up_to(path, part.last_event(), &part.unknown_event())
+    }
+
+    /// The same for a set of so many devices, each of which has two edges.
+    pub fn open_for_set(path: &Path, devices: usize) -> Outcome<FileSource> {
+        let last = edge_2(devices - 1);
+        let unknown = format!("an event of a set of {devices} is at most {last:02X}h");
+        FileSource::open_up_to(path, last, &unknown)
+    }
+
+    fn open_up_to(path: &Path, last: u8, unknown: &dyn fmt::Display) -> Outcome<FileSource> {
         if path.exists() && !path.is_file() {
             let words = format!("{}: not a regular file", path.display());
             return Err(Failure::Files(words));
         }
-        let total = test_events(FileSource::open_untested(path)?, part)?;
+        let total = test_events(FileSource::open_untested(path)?, last, unknown)?;
         let mut source = FileSource::open_untested(path)?;
         source.total = total;
         Ok(source)
@@ -169,8 +182,8 @@ impl Source for FileSource {
     }
 }
 
-/// The number of events of a source, all of which are known events of a part.
-fn test_events(mut source: FileSource, part: Part) -> Outcome<u64> {
+/// The number of events of a source, none of which is above the last that is known.
+fn test_events(mut source: FileSource, last: u8, unknown: &dyn fmt::Display) -> Outcome<u64> {
     let mut chunk = Vec::new();
     let mut total = 0;
     loop {
@@ -178,13 +191,13 @@ fn test_events(mut source: FileSource, part: Part) -> Outcome<u64> {
         if chunk.is_empty() {
             return Ok(total);
         }
-        if let Some(place) = chunk.iter().position(|byte| *byte > part.last_event()) {
+        if let Some(place) = chunk.iter().position(|byte| *byte > last) {
             return Err(Failure::Script(format!(
                 "{}: byte {} is {:02X}h: {}",
                 source.path.display(),
                 total + place as u64,
                 chunk[place],
-                part.unknown_event()
+                unknown
             )));
         }
         total += chunk.len() as u64;

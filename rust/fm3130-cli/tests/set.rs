@@ -8,7 +8,7 @@ use std::env;
 use std::fs;
 use std::path::Path;
 
-use fm3130::family::{edge_1, event, Member, Select, Set, Size};
+use fm3130::family::{edge_1, edge_2, event, Member, Select, Set, Size};
 use support::{scripts, Folder};
 
 /// A set of two, their select bits 2 and 0.
@@ -221,10 +221,130 @@ fn sets_that_cannot_be_are_refused() {
     }
 }
 
+/// The words of a run with files, on the set of two.
+fn with_files<'words>(words: &[&'words str]) -> Vec<&'words str> {
+    [
+        words,
+        &["--image", "images", "--memory", "memories"],
+        &TWO[..],
+    ]
+    .concat()
+}
+
+#[test]
+fn a_set_lives_on_between_runs() {
+    let folder = Folder::new("set-files");
+    let ran = folder.run_with(
+        &with_files(&["run", "-"]),
+        "c1@0*3 [ A4 7F FE 5A ] [ D0 0B 18 ]",
+    );
+    assert_eq!(ran.code, 0, "{}", ran.errors);
+    assert!(ran.output.contains("images: new, begins fresh\n"));
+    assert!(ran.output.contains("memories: new, begins fresh\n"));
+    let (images, memories) = (folder.read("images"), folder.read("memories"));
+    assert_eq!((images.len(), memories.len()), (128, 32_768 + 8_192));
+    // The first device is that of select bits 2; the second counted, and protects its memory.
+    assert_eq!(
+        (memories[0x7FFE], images[64 + 4], images[64 + 2]),
+        (0x5A, 3, 0x18)
+    );
+    let ran = folder.run_with(
+        &with_files(&["run", "-"]),
+        "c1@0 [ A4 7F FE [ A5 r ] [ A0 00 00 77 ]",
+    );
+    assert!(!ran.output.contains("begins fresh"), "{}", ran.output);
+    for line in [
+        "c1@0    1 edge on CNT1: counter 1 3 -> 4 (0004h)\n",
+        "  read  5Ah  NACK  @2 memory 7FFEh\n",
+        "  write 77h  NACK  @0 memory 0000h: protected, not stored; the address goes on to 0001h\n",
+    ] {
+        assert!(ran.output.contains(line), "{line}: {}", ran.output);
+    }
+    assert_eq!(folder.read("images")[64 + 4], 4);
+    assert_eq!(folder.read("memories"), memories);
+}
+
+#[test]
+fn files_that_are_of_no_set_are_refused_and_stay() {
+    let folder = Folder::new("set-wrong-files");
+    let words = with_files(&["run", "-", "--quiet"]);
+    for (name, bytes, message) in [
+        (
+            "images",
+            vec![0; 127],
+            "images: the file has 127 bytes: a set of 2 has 128",
+        ),
+        ("images", vec![0; 128], "images: "),
+        ("memories", vec![0; 8_192], "a set of 2 has 40960"),
+    ] {
+        folder.write(name, &bytes);
+        let (code, errors) = failed(&folder, &words, "[ ]");
+        assert_eq!(code, 4, "{errors}");
+        assert!(errors.contains(message), "{message}: {errors}");
+        assert_eq!(folder.read(name), bytes);
+        fs::remove_file(folder.file(name)).unwrap();
+    }
+    // A set that was left inside a transfer is not made again.
+    let ran = folder.run_with(&words, "[ A4");
+    assert_eq!(ran.code, 0, "{}", ran.errors);
+    let (code, errors) = failed(&folder, &words, "[ ]");
+    assert_eq!(code, 4);
+    assert!(errors.contains("(number 11)"), "{errors}");
+}
+
+#[test]
+fn events_of_a_set_go_to_a_file_and_back() {
+    let folder = Folder::new("set-events");
+    let text = "[ A4 00 10 5A ] c1@2 c2@0 t*2 [ D0 0D [ D1 r ]";
+    let words = [&["events", "-", "-o", "events"], &TWO[..]].concat();
+    assert_eq!(folder.run_with(&words, text).code, 0);
+    let events = folder.read("events");
+    // The edge of the device at the first place, and of that at the second.
+    assert!(events.contains(&edge_1(0)) && events.contains(&edge_2(1)));
+    let words = [&["run", "-", "--answers", "one"], &TWO[..]].concat();
+    let scripted = folder.run_with(&words, text).output;
+    let words = [&["run", "--events", "events", "--answers", "two"], &TWO[..]].concat();
+    assert_eq!(folder.run_with(&words, "").output, scripted);
+    assert_eq!(folder.read("one"), folder.read("two"));
+    // An event byte that names no device of the set.
+    folder.write("events", &[0, edge_1(2)]);
+    let (code, errors) = failed(&folder, &words, "");
+    assert_eq!(code, 3, "{errors}");
+    let message = "byte 1 is 0Ch: an event of a set of 2 is at most 0Bh";
+    assert!(errors.contains(message), "{errors}");
+    let words = [&["events", "--list", "events"], &TWO[..]].concat();
+    assert!(failed(&folder, &words, "")
+        .1
+        .contains("--list knows no sets"));
+    let words = ["events", "-", "--part", "fm3164@1", "--part", "fm3164@1"];
+    assert!(failed(&folder, &words, "").1.contains("(number 10)"));
+}
+
+#[test]
+fn a_waveform_has_the_line_that_the_set_leaves() {
+    let folder = Folder::new("set-waveform");
+    let waveform = |part: &[&str], text: &str| {
+        let words = [&["run", "-", "--quiet", "--vcd", "waves"], part].concat();
+        let ran = folder.run_with(&words, text);
+        assert_eq!(ran.code, 0, "{}", ran.errors);
+        String::from_utf8(folder.read("waves")).unwrap()
+    };
+    // The same bits on the wire, and the same answers, of one device alone and of one among two.
+    let alone = waveform(
+        &["--part", "fm31256@2"],
+        "[ A4 00 10 5A ] c1@2 [ A4 00 10 [ A5 r ]",
+    );
+    let among = waveform(&TWO, "[ A4 00 10 5A ] c1@2 [ A4 00 10 [ A5 r ]");
+    assert_eq!(alone, among);
+    // A slave byte that names nobody is not acknowledged: DEVICE never pulls.
+    let nobody = waveform(&TWO, "[ A2 ]");
+    assert!(!nobody.contains("\n0$\n"), "{nobody}");
+}
+
 #[test]
 fn what_knows_no_sets_says_so() {
     let folder = Folder::new("set-unknown");
-    for option in ["--image", "--memory", "--vcd", "--capture", "--events"] {
+    for option in ["--capture"] {
         let words = [&["run", "-", option, "file"], &TWO[..]].concat();
         let (code, errors) = failed(&folder, &words, "[ ]");
         assert_eq!(code, 2);
@@ -241,8 +361,7 @@ fn what_knows_no_sets_says_so() {
     assert!(failed(&folder, &[&["run"], &TWO[..]].concat(), "")
         .1
         .contains("run needs a SCRIPT"));
-    let words_of_others: [&[&str]; 5] = [
-        &["events", "-"],
+    let words_of_others: [&[&str]; 4] = [
         &["view", "--memory", "file"],
         &["fresh"],
         &["share", "-"],
@@ -252,10 +371,10 @@ fn what_knows_no_sets_says_so() {
         let words = [words, &["--part", "fm3164@1"]].concat();
         let (code, errors) = failed(&folder, &words, "");
         assert_eq!(code, 2);
-        let message = "fm3164@1 has select bits: it is for a set, which run alone knows";
+        let message = "fm3164@1 has select bits: it is for a set, which run and events alone know";
         assert!(errors.contains(message), "{words:?}: {errors}");
     }
-    let words = ["events", "-", "--part", "fm3164", "--part", "fm3164"];
+    let words = ["fresh", "--part", "fm3164", "--part", "fm3164"];
     let (_, errors) = failed(&folder, &words, "");
     assert!(errors.contains("--part is given twice"), "{errors}");
 }

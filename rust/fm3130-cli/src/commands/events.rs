@@ -4,6 +4,8 @@
 use std::ffi::OsString;
 use std::path::{Path, PathBuf};
 
+use fm3130::family::{Member, Select, Set};
+
 use crate::arguments::{wrong, Arguments, Options};
 use crate::chip::Part;
 use crate::failure::Outcome;
@@ -28,16 +30,51 @@ pub fn command(words: Vec<OsString>) -> Outcome {
     arguments.at_most(1)?;
     let script = arguments.plain.first().map(PathBuf::from);
     let target = arguments.path("-o");
-    let part = arguments.part()?;
+    let asked = Asked::of(&arguments)?;
     match (script, arguments.path("--list")) {
         (Some(_), Some(_)) => Err(wrong("events takes a SCRIPT or --list, not both")),
         (None, None) => Err(wrong("events needs a SCRIPT or --list FILE")),
         (None, Some(_)) if target.is_some() => Err(wrong("--list prints; it takes no -o")),
-        (None, Some(path)) => list(FileSource::open(&path, part)?),
-        (Some(path), None) => match target {
-            Some(target) => write(&path, &target, part),
-            None => print(PlanSource::new(script::load(&path, part)?)),
+        (None, Some(path)) => match asked {
+            Asked::One(part) => list(FileSource::open(&path, part)?),
+            Asked::Set(_) => Err(wrong("--list knows no sets")),
         },
+        (Some(path), None) => match target {
+            Some(target) => write(&path, &target, &asked),
+            None => print(asked.source(&path)?),
+        },
+    }
+}
+
+/// What the events are for: one part, or a set of devices with these select bits.
+enum Asked {
+    One(Part),
+    Set(Vec<Select>),
+}
+
+impl Asked {
+    fn of(arguments: &Arguments) -> Outcome<Asked> {
+        let Some(members) = arguments.set()? else {
+            return Ok(Asked::One(arguments.part()?));
+        };
+        let fresh = members
+            .iter()
+            .map(|(size, select)| Member::fresh(*size, *select));
+        match Set::new(fresh) {
+            Ok(_) => Ok(Asked::Set(
+                members.into_iter().map(|(_, select)| select).collect(),
+            )),
+            Err(refusal) => Err(wrong(format!("no set: {refusal}"))),
+        }
+    }
+
+    /// The events of a script.
+    fn source(&self, path: &Path) -> Outcome<PlanSource> {
+        let plan = match self {
+            Asked::One(part) => script::load(path, *part)?,
+            Asked::Set(selects) => script::load_for_set(path, selects)?,
+        };
+        Ok(PlanSource::new(plan))
     }
 }
 
@@ -57,7 +94,7 @@ fn for_each_chunk(source: &mut dyn Source, mut take: impl FnMut(&[u8]) -> Outcom
 }
 
 /// Writes the events of a script to a file.
-fn write(script: &Path, target: &Path, part: Part) -> Outcome {
+fn write(script: &Path, target: &Path, asked: &Asked) -> Outcome {
     files::must_differ(&[
         NamedFile {
             option: "SCRIPT",
@@ -68,7 +105,7 @@ fn write(script: &Path, target: &Path, part: Part) -> Outcome {
             path: target,
         },
     ])?;
-    let mut source = PlanSource::new(script::load(script, part)?);
+    let mut source = asked.source(script)?;
     let mut file = Replacement::open(target)?;
     for_each_chunk(&mut source, |chunk| file.write(chunk))?;
     files::commit_all(vec![file])

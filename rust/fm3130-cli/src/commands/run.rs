@@ -174,7 +174,12 @@ fn load_device(
 }
 
 /// The bytes of a part; says so if no file gave them.
-fn told(loaded: Loaded, path: &Path, is_quiet: bool, output: &mut Output) -> Outcome<Vec<u8>> {
+pub(super) fn told(
+    loaded: Loaded,
+    path: &Path,
+    is_quiet: bool,
+    output: &mut Output,
+) -> Outcome<Vec<u8>> {
     if loaded.is_fresh && !is_quiet {
         output.line(&format!("{}: new, begins fresh", path.display()))?;
     }

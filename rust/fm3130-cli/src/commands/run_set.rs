@@ -1,60 +1,155 @@
 // SPDX-License-Identifier: Apache-2.0
 //! `fm3130 run` with select bits: plays a script on a set of devices on one line.
 
-use std::path::PathBuf;
+use std::path::{Path, PathBuf};
 
 use fm3130::family::{Member, Select, Set, Size};
+use fm3130::IMAGE_BYTES;
 
-use super::run::{test_files, title_of};
+use super::run::{test_files, title_of, told};
 use crate::arguments::{wrong, Arguments};
 use crate::bus::{self, Grouping, Listener, Observer, Outputs};
 use crate::chip::State;
 use crate::drawing::Drawing;
-use crate::failure::Outcome;
+use crate::failure::{Failure, Outcome};
 use crate::files::{self, Replacement};
 use crate::output::Output;
 use crate::script;
-use crate::source::PlanSource;
+use crate::source::{FileSource, PlanSource, Source};
 use crate::transcript::Transcript;
+use crate::waveform::Waveform;
 use crate::words;
 
-/// Options with a file that are for one device.
-const FILES_OF_ONE: [&str; 5] = ["--image", "--memory", "--vcd", "--capture", "--events"];
+/// Options that are for one device: with a file, and alone.
+const OF_ONE: [&str; 2] = ["--capture", "--next-line"];
 
-/// Plays a script on fresh devices of these sizes and select bits.
+/// Plays a script or an event file on devices of these sizes and select bits.
 pub fn command(
     arguments: &Arguments,
     script: Option<PathBuf>,
     members: &[(Size, Select)],
 ) -> Outcome {
     test_options(arguments)?;
-    let script = script.ok_or_else(|| wrong("run needs a SCRIPT"))?;
-    test_files(arguments, Some(&script))?;
-    let fresh = members
-        .iter()
-        .map(|(size, select)| Member::fresh(*size, *select));
-    let mut set = Set::new(fresh).map_err(|refusal| wrong(format!("no set: {refusal}")))?;
-    let selects: Vec<Select> = members.iter().map(|(_, select)| *select).collect();
-    let mut source = PlanSource::new(script::load_for_set(&script, &selects)?);
-    let mut targets = Targets::open(arguments, title_of(&script))?;
+    test_files(arguments, script.as_deref())?;
+    let is_quiet = arguments.has("--quiet");
     let mut output = Output::new();
-    let printed = (!arguments.has("--quiet")).then_some(&mut output);
-    play_to(&mut set, &mut source, &mut targets, printed)?;
-    if !arguments.has("--quiet") {
+    test_members(members)?;
+    let (mut source, title) = open_source(arguments, script, members)?;
+    let mut set = load_set(arguments, members, is_quiet, &mut output)?;
+    let mut targets = Targets::open(arguments, title)?;
+    let printed = (!is_quiet).then_some(&mut output);
+    play_to(&mut set, &mut *source, &mut targets, printed)?;
+    if !is_quiet {
         say_how_it_ends(&set, &mut output)?;
     }
     output.finish()?;
-    files::commit_all(
-        [targets.answers, targets.svg]
-            .into_iter()
-            .flatten()
-            .collect(),
-    )
+    targets.commit(&set)
 }
 
-/// The files that a run of a set writes.
+/// Refuses options that are for one device.
+fn test_options(arguments: &Arguments) -> Outcome {
+    let is_given = |option: &&str| arguments.path(option).is_some() || arguments.has(option);
+    match OF_ONE.into_iter().find(is_given) {
+        None => Ok(()),
+        Some(option) => Err(wrong(format!(
+            "{option} knows no sets; it is for one part without select bits"
+        ))),
+    }
+}
+
+/// Fresh devices of a set.
+fn fresh(members: &[(Size, Select)]) -> Vec<Member> {
+    let fresh = members.iter();
+    fresh
+        .map(|(size, select)| Member::fresh(*size, *select))
+        .collect()
+}
+
+/// Refuses a set that cannot be made even of fresh devices.
+fn test_members(members: &[(Size, Select)]) -> Outcome {
+    match Set::new(fresh(members)) {
+        Ok(_) => Ok(()),
+        Err(refusal) => Err(wrong(format!("no set: {refusal}"))),
+    }
+}
+
+/// The source of events and its name.
+fn open_source(
+    arguments: &Arguments,
+    script: Option<PathBuf>,
+    members: &[(Size, Select)],
+) -> Outcome<(Box<dyn Source>, String)> {
+    let selects: Vec<Select> = members.iter().map(|(_, select)| *select).collect();
+    match (script, arguments.path("--events")) {
+        (Some(path), None) => {
+            let plan = script::load_for_set(&path, &selects)?;
+            Ok((Box::new(PlanSource::new(plan)), title_of(&path)))
+        }
+        (None, Some(path)) => {
+            let source = FileSource::open_for_set(&path, members.len())?;
+            Ok((Box::new(source), title_of(&path)))
+        }
+        (Some(_), Some(_)) => Err(wrong("run takes a SCRIPT or --events, not both")),
+        (None, None) => Err(wrong("run needs a SCRIPT")),
+    }
+}
+
+/// The set that the files hold, with fresh devices where there are none.
+fn load_set(
+    arguments: &Arguments,
+    members: &[(Size, Select)],
+    is_quiet: bool,
+    output: &mut Output,
+) -> Outcome<Set> {
+    let fresh = fresh(members);
+    let mut load = |option: &str, fresh: Vec<u8>| match arguments.path(option) {
+        None => Ok(fresh),
+        Some(path) => {
+            let loaded = files::load_of_set(&path, &fresh, members.len())?;
+            told(loaded, &path, is_quiet, output)
+        }
+    };
+    let images = load("--image", all_images(&fresh))?;
+    let memories = load("--memory", all_memories(&fresh))?;
+    made_of(members, &images, &memories).map_err(|words| match arguments.path("--image") {
+        Some(path) => Failure::Refused(refused_in(&path, &words)),
+        None => Failure::Refused(words),
+    })
+}
+
+fn refused_in(path: &Path, words: &str) -> String {
+    format!("{}: {words}", path.display())
+}
+
+/// A set of images and memories that stand one after the other; or why there is none.
+fn made_of(members: &[(Size, Select)], images: &[u8], memories: &[u8]) -> Result<Set, String> {
+    let (mut devices, mut rest) = (Vec::new(), memories);
+    for ((size, select), image) in members.iter().zip(images.chunks(IMAGE_BYTES)) {
+        let (memory, others) = rest.split_at(size.bytes());
+        rest = others;
+        let device = Member::from_parts(*size, *select, image, memory);
+        devices.push(device.map_err(|refusal| refusal.to_string())?);
+    }
+    Set::new(devices).map_err(|refusal| refusal.to_string())
+}
+
+/// The images of devices, one after the other.
+fn all_images(members: &[Member]) -> Vec<u8> {
+    members.iter().flat_map(|one| *one.image()).collect()
+}
+
+/// The memories of devices, one after the other.
+fn all_memories(members: &[Member]) -> Vec<u8> {
+    let memories = members.iter().map(Member::memory);
+    memories.collect::<Vec<_>>().concat()
+}
+
+/// The files that a run of a set writes. All are opened before the run and put in place after it.
 struct Targets {
+    images: Option<Replacement>,
+    memories: Option<Replacement>,
     answers: Option<Replacement>,
+    vcd: Option<Replacement>,
     svg: Option<Replacement>,
     /// The drawing's title.
     title: String,
@@ -67,33 +162,32 @@ impl Targets {
             path.map(|path| Replacement::open(&path)).transpose()
         };
         Ok(Targets {
+            images: open("--image")?,
+            memories: open("--memory")?,
             answers: open("--answers")?,
+            vcd: open("--vcd")?,
             svg: open("--svg")?,
             title,
         })
     }
-}
 
-/// Refuses options that are for one device.
-fn test_options(arguments: &Arguments) -> Outcome {
-    let given = FILES_OF_ONE
-        .into_iter()
-        .filter(|option| arguments.path(option).is_some());
-    let alone = ["--next-line"]
-        .into_iter()
-        .filter(|option| arguments.has(option));
-    match given.chain(alone).next() {
-        None => Ok(()),
-        Some(option) => Err(wrong(format!(
-            "{option} knows no sets; it is for one part without select bits"
-        ))),
+    /// Writes the devices, and puts every file in its place.
+    fn commit(mut self, set: &Set) -> Outcome {
+        if let Some(file) = &mut self.images {
+            file.write(&all_images(set.members()))?;
+        }
+        if let Some(file) = &mut self.memories {
+            file.write(&all_memories(set.members()))?;
+        }
+        let all = [self.images, self.memories, self.answers, self.vcd, self.svg];
+        files::commit_all(all.into_iter().flatten().collect())
     }
 }
 
-/// Plays a script to all who want to see it.
+/// Plays a source to all who want to see it.
 fn play_to(
     set: &mut Set,
-    source: &mut PlanSource,
+    source: &mut dyn Source,
     targets: &mut Targets,
     output: Option<&mut Output>,
 ) -> Outcome {
@@ -109,10 +203,15 @@ fn play_to(
     listeners.extend(drawing.as_mut().map(|one| one as &mut dyn Listener));
     let is_heard = !listeners.is_empty();
     let mut grouping = Grouping::new(listeners, &first, None);
+    let mut waveform = match targets.vcd.as_mut() {
+        Some(file) => Some(Waveform::begin(file, &first)?),
+        None => None,
+    };
     let mut observers: Vec<&mut dyn Observer> = Vec::new();
     if is_heard {
         observers.push(&mut grouping);
     }
+    observers.extend(waveform.as_mut().map(|one| one as &mut dyn Observer));
     let mut outputs = Outputs {
         observers,
         prints,

@@ -6,7 +6,7 @@ mod parts;
 mod replacement;
 
 pub use identity::{must_differ, NamedFile};
-pub use parts::{load_image, load_memory, Loaded};
+pub use parts::{load_image, load_memory, load_of_set, Loaded};
 pub use replacement::{commit_all, Replacement};
 
 use std::fs;

@@ -1,12 +1,13 @@
 // SPDX-License-Identifier: Apache-2.0
 //! The files that a device is made of: an image and a memory.
 
+use std::fmt;
 use std::path::Path;
 
 use fm3130::IMAGE_BYTES;
 
 use super::read_at_most;
-use crate::chip::{Chip, Part, Refused};
+use crate::chip::{Chip, Part};
 use crate::failure::{Failure, Outcome};
 
 /// Bytes of a part, and whether a file gave them.
@@ -32,8 +33,20 @@ pub fn load_memory(path: &Path, part: Part) -> Outcome<Loaded> {
     load(path, length, &vec![0; length], part.wrong_memory())
 }
 
+/// The images or the memories of a set in a file, one after the other; or those of fresh devices if there is no such
+/// file.
+pub fn load_of_set(path: &Path, fresh: &[u8], devices: usize) -> Outcome<Loaded> {
+    let wanted = format!("a set of {devices} has {}", fresh.len());
+    load(path, fresh.len(), fresh, wanted)
+}
+
 /// The bytes of a file that must have a length; or others if there is no such file.
-fn load(path: &Path, length: usize, otherwise: &[u8], refusal: Refused) -> Outcome<Loaded> {
+fn load(
+    path: &Path,
+    length: usize,
+    otherwise: &[u8],
+    refusal: impl fmt::Display,
+) -> Outcome<Loaded> {
     if !exists(path)? {
         return Ok(Loaded {
             bytes: otherwise.to_vec(),
@@ -63,7 +76,7 @@ fn exists(path: &Path) -> Outcome<bool> {
 }
 
 /// Says how long the file is and how long it should be.
-fn wrong_length(path: &Path, found: usize, wanted: usize, refusal: Refused) -> Failure {
+fn wrong_length(path: &Path, found: usize, wanted: usize, refusal: impl fmt::Display) -> Failure {
     let found = if found > wanted {
         format!("more than {wanted}")
     } else {
