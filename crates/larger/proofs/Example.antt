@@ -83,7 +83,7 @@ module _ (size : ℕ) where
   isSteady h [] = true
   isSteady h (e ∷ es) = eqb (protection (next h e)) (protection h) && isSteady (next h e) es
 
-  where-written : (p : Phase) {X : Type 0} → X → WhereWritten p X
+  pub where-written : (p : Phase) {X : Type 0} → X → WhereWritten p X
   where-written Idle h = tt
   where-written (Slave k b) h = tt
   where-written (AddressHigh k b) h = tt
@@ -93,7 +93,7 @@ module _ (size : ℕ) where
   where-written (Write Companion k b) h = h
   where-written (Read s k b) h = tt
 
-  if-written : (p : Phase) (e : Event Beat) {X : Type 0} → X → IfWritten p e X
+  pub if-written : (p : Phase) (e : Event Beat) {X : Type 0} → X → IfWritten p e X
   if-written p (line start) h = tt
   if-written p (line stop) h = tt
   if-written p (line (clock d)) h = where-written p h
