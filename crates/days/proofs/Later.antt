@@ -3,16 +3,16 @@
 -- calendar lead to the second n later, and the day of the week goes on by the midnights between; and no two dates and
 -- times stand at one second. So n ticks lead to the calendar at the second n later.
 -- Assumes nothing.
-use mathlib.Core.Path.{_≡_, refl, sym, _∙_, ap}
+use mathlib.Core.Path.{_≡_, refl, sym, _∙_, ap, subst}
 use mathlib.Core.Bool.{Bool, true, false}
 use Prim.Native.Nat.{ℕ, zero, suc, _+_, _*_, _-_, _/_, _%_, _≤_, _<_, zero-le}
 use native.Mathlib.Omega.{arith}
 use lib.Dec.{T, ltb, leb}
-use borrow.Author.Tests.{leb-true, leb-false, le-ltb, lt-ltb}
+use borrow.Author.Tests.{leb-true, leb-false, le-leb, lt-leb, le-ltb, lt-ltb}
 use Rattle.calendar.specs.Field.{value, bcd, bit}
 use Rattle.calendar.specs.Month.{monthLength}
 use Rattle.calendar.specs.Next.{isValid, lengthOf, nextOf}
-use Rattle.calendar.specs.Instant.{monthStart, monthIndex, timeOf, instant}
+use Rattle.calendar.specs.Instant.{monthStart, monthIndex, dayNumber, timeOf, instant}
 use Rattle.calendar.specs.After.{after, crossings}
 use Rattle.calendar.specs.declared.Calendar.{Calendar}
 use Rattle.calendar.proofs.Field.{InField, value-bcd, bcd-digit}
@@ -21,7 +21,7 @@ use Rattle.calendar.proofs.Valid.{Valid, valid-facts}
 use Rattle.calendar.proofs.Instant.{month-start-next}
 use Rattle.calendar.proofs.Next.{next-of-invalid}
 use Rattle.calendar.proofs.After.{after-valid, after-instant}
-use Rattle.century.proofs.Instants.{instant-below, settled, same-time, same-calendar}
+use Rattle.century.proofs.Instants.{time-below, instant-below, settled, same-time, same-calendar}
 use Rattle.century.proofs.Week.{after-day, day-is-value}
 use Rattle.days.specs.Places.{InMonth, dayOfSecond, calendarAt, PlacedAt}
 use Rattle.days.specs.After.{afterOf}
@@ -101,6 +101,30 @@ pub placed-at :
     → PlacedAt i w (record { seconds = s; minutes = n; hours = h; day = w; date = d; month = m; year = y })
 unfolding calendarAt
 placed-at i w {k} t e es en eh ed em ey = record { index = k; inMonth = t; is = rw (es, en, eh, ed, em, ey, e) refl }
+
+minutes-of : (day m : ℕ) → m - m / 60 * 60 ≡ (day * 1440 + m) % 60
+minutes-of day m = omega arith
+
+hours-of : (day m : ℕ) → m < 1440 → m / 60 ≡ (day * 1440 + m) / 60 % 24
+hours-of day m l = omega arith
+
+-- the same on a day, at a second of it
+pub placed-on :
+    (day second w : ℕ) {k past s n h d m y : ℕ} → second < 86400 → InMonth day k → past ≡ day - monthStart k
+    → s ≡ bcd (second - second / 60 * 60) → n ≡ bcd (second / 60 - second / 3600 * 60) → h ≡ bcd (second / 3600)
+    → d ≡ bcd (past + 1) → m ≡ bcd (k % 12 + 1) → y ≡ bcd (k / 12 % 100)
+    → PlacedAt (day * 86400 + second) w (record { seconds = s; minutes = n; hours = h; day = w; date = d; month = m; year = y })
+placed-on day second w {k} l t p es en eh ed em ey =
+    let i = day * 86400 + second in
+    let e : dayOfSecond i ≡ day = omega arith in
+    let s : second - second / 60 * 60 ≡ i % 60 = omega arith in
+    let b : second / 3600 ≡ second / 60 / 60 = omega arith in
+    let g : day * 1440 + second / 60 ≡ i / 60 = omega arith in
+    let n =
+    ap (λ (x : ℕ). second / 60 - x * 60) b ∙ minutes-of day (second / 60) ∙ ap (λ (x : ℕ). x % 60) g in
+    let h = b ∙ hours-of day (second / 60) (omega arith) ∙ ap (λ (x : ℕ). x / 60 % 24) g in
+    placed-at i w (subst (λ (x : ℕ). InMonth x k) (sym e) t) refl (es ∙ ap bcd s) (en ∙ ap bcd n) (eh ∙ ap bcd h)
+    (ed ∙ ap (λ (x : ℕ). bcd (x + 1)) (p ∙ ap (λ (x : ℕ). x - monthStart k) (sym e))) em ey
 
 module _ (i k w : ℕ) (m : InMonth (dayOfSecond i) k) where
   abbrev r : Calendar
@@ -193,6 +217,31 @@ unfolding afterOf
 after-placed c h n r p =
     let e = p .is ∙ sym (after-at c h n (p .index) (p .inMonth)) in
     λ i. record { calendar = e i; century = after-century c h n i }
+
+-- the same by days and seconds of the day
+later-century : (d s i : ℕ) → s < 86400 → d * 86400 + s ≡ i → leb 36525 d ≡ leb 3155760000 i
+later-century d s i l e = by-day (leb 36525 d) refl
+  where
+    by-day : (b : Bool) → leb 36525 d ≡ b → b ≡ leb 3155760000 i
+    by-day true t = let g = leb-true 36525 d t in sym (le-leb 3155760000 i (omega arith))
+    by-day false t = let g = leb-false 36525 d t in sym (lt-leb 3155760000 i (omega arith))
+
+pub after-reached :
+    (c : Calendar) (h : T (isValid c)) (n : ℕ) (r : Calendar)
+    → PlacedAt ((dayNumber c + (timeOf c + n) / 86400) * 86400 + (timeOf c + n) % 86400)
+    ((value (c .day) + 6 + (timeOf c + n) / 86400) % 7 + 1) r
+    → record { calendar = r; century = leb 36525 (dayNumber c + (timeOf c + n) / 86400) } ≡ afterOf n c
+after-reached c h n r p =
+    let d = dayNumber c + (timeOf c + n) / 86400 in
+    let s = (timeOf c + n) % 86400 in
+    let t = time-below c (valid-facts c h) in
+    let e : d * 86400 + s ≡ instant c + n = omega arith in
+    let m : (timeOf c + n) / 86400 ≡ (instant c + n) / 86400 - instant c / 86400 = omega arith in
+    let q =
+    subst (λ (w : ℕ). PlacedAt (instant c + n) w r) (ap (λ (x : ℕ). (value (c .day) + 6 + x) % 7 + 1) m)
+    (subst (λ (i : ℕ). PlacedAt i ((value (c .day) + 6 + (timeOf c + n) / 86400) % 7 + 1) r) e p) in
+    let b = later-century d s (instant c + n) (omega arith) e in
+    (λ i. record { calendar = r; century = b i }) ∙ after-placed c h n r q
 
 -- ticks leave an invalid calendar as it is
 module _ (c : Calendar) (e : isValid c ≡ false) where

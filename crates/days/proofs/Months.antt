@@ -4,7 +4,7 @@
 -- the month of a day is the one of its share, or the one before; and it is one month alone.
 -- Assumes nothing.
 use mathlib.Core.Path.{_≡_, refl, sym, _∙_, ap, subst}
-use mathlib.Core.Bool.{Bool, true, false, _&&_}
+use mathlib.Core.Bool.{Bool, true, false, cond, _&&_}
 use Prim.Native.Nat.{ℕ, zero, suc, _+_, _*_, _-_, _/_, _%_, _≤_, _<_}
 use native.Mathlib.Omega.{arith}
 use native.Mathlib.Nat.{suc-add}
@@ -64,6 +64,18 @@ month-start-wrap k h = by-century (ltb k 1200) refl
         let r : k ≡ k % 1200 + 1200 = omega arith in
         let s = ap monthStart r ∙ month-start-later (k % 1200) in
         omega arith
+
+-- a month by its place in its four years
+pub month-start-four : (q r : ℕ) → q * 1461 + monthStart r ≡ monthStart (q * 48 + r)
+month-start-four q r =
+    let e : q * 48 + r ≡ r + 48 * q = omega arith in
+    let s = ap monthStart e ∙ month-start-cycles q r in
+    omega arith
+
+pub month-start-split : (k : ℕ) → k / 48 * 1461 + monthStart (k % 48) ≡ monthStart k
+month-start-split k =
+    let e : k / 48 * 48 + k % 48 ≡ k = omega arith in
+    month-start-four (k / 48) (k % 48) ∙ ap monthStart e
 
 -- near its even share of the days: computed for the months of one cycle
 abbrev isNear : ℕ → Bool
@@ -125,6 +137,50 @@ module _ (d : ℕ) (h : d < 73000) where
       let n = month-start-near (shareOf d - 1) in
       let e : shareOf d ≡ shareOf d - 1 + 1 = omega arith in
       record { known = omega arith; from = omega arith; to = subst (λ (k : ℕ). d < monthStart k) e l }
+
+-- the same within four years: x is 1 where the day is before the month of its share there
+abbrev pub shareIn : ℕ → ℕ
+shareIn d = (48 * (d % 1461) + 78) / 1461
+
+pub record FoundBy (d x : ℕ) : Type 0 where
+  pub some : x ≤ shareIn d
+  pub most : shareIn d - x ≤ 48
+  pub from : monthStart (shareIn d - x) ≤ d % 1461
+  pub inMonth : InMonth d (d / 1461 * 48 + (shareIn d - x))
+
+module _ (d : ℕ) (h : d < 73000) where
+  share-starts : monthStart (shareOf d) ≡ d / 1461 * 1461 + monthStart (shareIn d)
+  share-starts =
+      let e : shareOf d ≡ d / 1461 * 48 + shareIn d = omega arith in
+      ap monthStart e ∙ sym (month-start-four (d / 1461) (shareIn d))
+
+  found-by : (x m : ℕ) → x ≤ shareIn d → m ≡ shareIn d - x → InMonth d (d / 1461 * 48 + m) → FoundBy d x
+  found-by x m l e t =
+      let f = month-start-four (d / 1461) m in
+      let s = ap monthStart e in
+      record {
+        some = l;
+        most = omega arith;
+        from = omega (arith, t .from);
+        inMonth = subst (λ (k : ℕ). InMonth d (d / 1461 * 48 + k)) e t;
+      }
+
+  found-at : d % 1461 < monthStart (shareIn d) → (b : Bool) → eqb (shareIn d) 0 ≡ b → FoundBy d 1
+  found-at l true z =
+      absurd (omega (arith, ap monthStart (eqb-true (shareIn d) 0 z), month-start-first))
+  found-at l false z =
+      let n = eqb-false (shareIn d) 0 z in
+      let g : d < monthStart (shareOf d) = omega (arith, share-starts) in
+      let e : shareOf d - 1 ≡ d / 1461 * 48 + (shareIn d - 1) = omega arith in
+      found-by 1 (shareIn d - 1) (omega arith) (omega arith) (subst (λ (k : ℕ). InMonth d k) e (before-share d h g))
+
+  pub found-in : (b : Bool) → ltb (d % 1461) (monthStart (shareIn d)) ≡ b → FoundBy d (cond b 1 0)
+  found-in true t = found-at (ltb-true (d % 1461) (monthStart (shareIn d)) t) (eqb (shareIn d) 0) refl
+  found-in false t =
+      let l = ltb-false (d % 1461) (monthStart (shareIn d)) t in
+      let g : monthStart (shareOf d) ≤ d = omega (arith, share-starts) in
+      let e : shareOf d ≡ d / 1461 * 48 + shareIn d = omega arith in
+      found-by 0 (shareIn d) (omega arith) (omega arith) (subst (λ (k : ℕ). InMonth d k) e (in-share d h g))
 
 pub record MonthOf (d : ℕ) : Type 0 where
   pub index : ℕ

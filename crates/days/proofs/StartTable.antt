@@ -3,16 +3,14 @@
 -- Assumes nothing.
 use mathlib.Core.Path.{_≡_, sym, _∙_, ap}
 use mathlib.Core.List.{List, [], _∷_}
-use Prim.Native.Nat.{ℕ, zero, suc, _+_, _*_, _/_, _%_, _<_}
+use Prim.Native.Nat.{ℕ, zero, suc, _+_, _<_}
 use native.Mathlib.Nat.{add-zero, zero-add, add-suc, suc-add, le-of-suc-le-suc, not-suc-le-zero}
-use native.Mathlib.Omega.{arith}
 use lib.Dec.{T, eqb, eqb→eq}
 use lib.ListN.{length, getD}
 use Rattle.calendar.specs.Instant.{monthStart}
 use Rattle.days.specs.Table.{climbs, IsTable}
 use Rattle.calendar.proofs.Tests.{and-left, and-right}
 use Rattle.calendar.proofs.Instant.{month-start-first}
-use Rattle.days.proofs.Months.{month-start-wrap}
 
 climbs-from :
     (xs : List ℕ) (k : ℕ) → T (climbs k (monthStart k) xs) → (j : ℕ) → j < length xs → getD xs j 0 ≡ monthStart (k + j)
@@ -24,14 +22,7 @@ climbs-from (x ∷ xs) k t (suc j) h =
     climbs-from xs (suc k) (and-right (eqb x (monthStart k)) _ t) j (le-of-suc-le-suc h)
     ∙ ap monthStart (suc-add k j ∙ sym (add-suc k j))
 
--- this century's months, and the next's
+-- this century's months
 pub table-at : (xs : List ℕ) → IsTable xs → (k : ℕ) → k < 1200 → getD xs k 0 ≡ monthStart k
 table-at xs t k h =
     climbs-from xs 0 (rw month-start-first (t .climb)) k (rw (t .count) h) ∙ ap monthStart (zero-add k)
-
-pub table-later :
-    (xs : List ℕ) → IsTable xs → (k : ℕ) → k < 2400 → getD xs (k % 1200) 0 + k / 1200 * 36525 ≡ monthStart k
-table-later xs t k h =
-    let e = table-at xs t (k % 1200) (omega arith) in
-    let w = month-start-wrap k h in
-    omega arith

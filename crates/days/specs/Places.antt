@@ -6,13 +6,21 @@
 --   dayOfSecond i      the day that the second i is in
 --   calendarAt i k w   the calendar at the second i, its day being in the month k and the day w of the week
 --   PlacedAt i w c     c is that calendar, for the month that the second's day is in
+--   momentOf c         where a valid calendar stands: its month, its day, the second of that day
+--   Standing m         m is such a place
+--   isBefore d s       1 where the day d is before the day s
+--   StandsIn d p       p is the month that the day d is in, with its days before d
 --
 -- Assumes nothing.
 use mathlib.Core.Path.{_≡_}
+use mathlib.Core.Bool.{cond}
 use Prim.Native.Nat.{ℕ, _+_, _-_, _/_, _%_, _≤_, _<_}
+use lib.Dec.{ltb}
 use Rattle.calendar.specs.Field.{bcd}
-use Rattle.calendar.specs.Instant.{monthStart}
+use Rattle.calendar.specs.Instant.{monthStart, monthIndex, dayNumber, timeOf}
 use Rattle.calendar.specs.declared.Calendar.{Calendar}
+use Rattle.days.specs.declared.places.Moment.{Moment}
+use Rattle.days.specs.declared.starts.Place.{Place}
 
 pub record InMonth (d k : ℕ) : Type 0 where
   pub known : k < 2400
@@ -38,3 +46,18 @@ pub record PlacedAt (i w : ℕ) (c : Calendar) : Type 0 where
   pub index : ℕ
   pub inMonth : InMonth (dayOfSecond i) index
   pub is : c ≡ calendarAt i index w
+
+abbrev pub momentOf : Calendar → Moment
+momentOf c = record { month = monthIndex c; day = dayNumber c; second = timeOf c }
+
+pub record Standing (m : Moment) : Type 0 where
+  pub month : monthStart (m .month) ≤ m .day
+  pub day : m .day < 36525
+  pub second : m .second < 86400
+
+abbrev pub isBefore : ℕ → ℕ → ℕ
+isBefore d s = cond (ltb d s) 1 0
+
+pub record StandsIn (d : ℕ) (p : Place) : Type 0 where
+  pub inMonth : InMonth d (p .month)
+  pub past : p .past ≡ d - monthStart (p .month)

@@ -1,22 +1,28 @@
 // SPDX-License-Identifier: Apache-2.0
-// A calendar's place in the century as a second, and the calendar at a second.
+// A calendar's place in the century: its month, its day and the second of that day; and the calendar at such a place.
 ghost use mathlib.Core.Path.{_≡_};
-ghost use Prim.Native.Nat.{_≤_, _<_};
+ghost use Prim.Native.Nat.{_+_, _*_, _/_, _%_, _<_};
 ghost use lib.Dec.{T};
 ghost use Rattle.calendar.specs.Field.{value, bcd};
 ghost use Rattle.calendar.specs.Next.{isValid};
-ghost use Rattle.calendar.specs.Instant.{dayNumber, timeOf, instant};
-ghost use Rattle.days.specs.Table.{IsTable};
-ghost use Rattle.days.specs.Places.{PlacedAt};
-use crate::starts::month_of;
-use crate::starts::month_start;
+ghost use Rattle.calendar.specs.Instant.{timeOf};
+ghost use Rattle.days.specs.Places.{momentOf, PlacedAt};
+use crate::starts::first_start;
+use crate::starts::place_of;
 use calendar::Calendar;
+
+// Where a valid calendar stands, all counted from 0: its month and its day of the century, and the second of that day.
+pub struct Moment {
+    pub month: u32,
+    pub day: u32,
+    pub second: u32,
+}
 
 // The number that two decimal digits stand for, wide enough for sums of seconds.
 pub fn number(byte: u8) -> u32
     ensures { λ r. ⌜ (r ≡ value byte) × (r < 256) ⌝ }
 {
-    (byte / 16 * 10 + byte % 16) as u32
+    byte as u32 / 16 * 10 + byte as u32 % 16
 }
 
 // The byte whose two decimal digits stand for a number.
@@ -27,15 +33,6 @@ fn digits(number: u32) -> u8
     (number / 10 * 16 + number % 10) as u8
 }
 
-// The day of the century that a valid calendar is in, counted from 0.
-fn day_number(starts: &[u16; 1200], calendar: Calendar) -> u32
-    requires { ⌜ (IsTable (now starts)) × (T (isValid calendar)) ⌝ }
-    ensures { λ r. ⌜ r ≡ dayNumber calendar ⌝ }
-{
-    let month = 12 * number(calendar.year) + (number(calendar.month) - 1);
-    month_start(starts, month as usize) + (number(calendar.date) - 1)
-}
-
 // The seconds of the day.
 fn time(calendar: Calendar) -> u32
     ensures { λ r. ⌜ r ≡ timeOf calendar ⌝ }
@@ -43,31 +40,49 @@ fn time(calendar: Calendar) -> u32
     (number(calendar.hours) * 60 + number(calendar.minutes)) * 60 + number(calendar.seconds)
 }
 
-// The second of the century at which a valid calendar stands, counted from 0.
-pub fn instant(starts: &[u16; 1200], calendar: Calendar) -> u32
-    requires { ⌜ (IsTable (now starts)) × (T (isValid calendar)) ⌝ }
-    ensures { λ r. ⌜ r ≡ instant calendar ⌝ }
+// Where a valid calendar stands.
+pub fn standing(calendar: Calendar) -> Moment
+    requires { ⌜ T (isValid calendar) ⌝ }
+    ensures { λ r. ⌜ r ≡ momentOf calendar ⌝ }
 {
-    day_number(starts, calendar) * 86400 + time(calendar)
+    let year = number(calendar.year);
+    let month = year % 4 * 12 + (number(calendar.month) - 1);
+    let rest = first_start(month) + (number(calendar.date) - 1);
+    let second = time(calendar);
+    Moment {
+        month: year / 4 * 48 + month,
+        day: year / 4 * 1461 + rest,
+        second: second,
+    }
 }
 
-// The calendar at a second of this century or the next, on a day of the week.
-pub(crate) fn at(starts: &[u16; 1200], second: u32, weekday: u8) -> Calendar
-    requires { ⌜ IsTable (now starts) ⌝ }
-    ensures { λ r. ⌜ PlacedAt second weekday r ⌝ }
+// The year that a month of this century or the next is in, by its two digits.
+fn year_of(month: u32) -> u32
+    requires { ⌜ month < 2400 ⌝ }
+    ensures { λ r. ⌜ r ≡ month / 12 % 100 ⌝ }
+{
+    let year = month / 12;
+    if year < 100 {
+        return year;
+    }
+    year - 100
+}
+
+// The calendar at a second of a day of this century or the next, on a day of the week.
+pub(crate) fn at(day: u32, second: u32, weekday: u8) -> Calendar
+    requires { ⌜ (day < 73000) × (second < 86400) ⌝ }
+    ensures { λ r. ⌜ PlacedAt (day * 86400 + second) weekday r ⌝ }
 {
     let minute = second / 60;
-    let hour = minute / 60;
-    let day = hour / 24;
-    let month = month_of(starts, day);
-    let date = day - month_start(starts, month) + 1;
+    let hour = second / 3600;
+    let place = place_of(day);
     Calendar {
-        seconds: digits(second % 60),
-        minutes: digits(minute % 60),
-        hours: digits(hour % 24),
+        seconds: digits(second - minute * 60),
+        minutes: digits(minute - hour * 60),
+        hours: digits(hour),
         day: weekday,
-        date: digits(date),
-        month: digits((month % 12 + 1) as u32),
-        year: digits((month / 12 % 100) as u32),
+        date: digits(place.past + 1),
+        month: digits(place.month % 12 + 1),
+        year: digits(year_of(place.month)),
     }
 }

@@ -1,14 +1,16 @@
 // SPDX-License-Identifier: Apache-2.0
 // The start of every month of the century as a day number, and the month that a day is in. Days and months are counted
-// on into the next century, which starts 36,525 days and 1,200 months later.
+// on into the next century. Four years are 48 months and 1,461 days, whatever the years are, so that the table is looked
+// up in its first four years.
 //
-// The table is a constant, and a constant array is made anew wherever it is used. So it is lent once, by whoever answers
-// a call, and every function below takes it by reference.
+// A constant array is made anew on the stack wherever a place of it is asked for that is found only as the program runs.
+// Where every place is known when it is compiled, as in the arms of a `match`, nothing is made: the compiler keeps what
+// the arms return in memory that is only read.
 ghost use mathlib.Core.Path.{_≡_};
-ghost use Prim.Native.Nat.{_<_};
+ghost use Prim.Native.Nat.{_≤_, _<_};
 ghost use Rattle.calendar.specs.Instant.{monthStart};
 ghost use Rattle.days.specs.Table.{IsTable};
-ghost use Rattle.days.specs.Places.{InMonth};
+ghost use Rattle.days.specs.Places.{isBefore, StandsIn};
 
 // The first day of each of the century's months, the day 01/01/00 being 0.
 pub const STARTS: [u16; 1200] = [
@@ -1214,30 +1216,106 @@ pub const STARTS: [u16; 1200] = [
     36494,
 ];
 
-// A table's entry, wide enough for the next century's days.
-fn wide(start: u16) -> u32
-    ensures { λ r. ⌜ (r ≡ start) × (r < 65536) ⌝ }
+// The start of one of the table's first 49 months: those of four years, and the month after them.
+fn entry(starts: &[u16; 1200], month: u32) -> u16
+    requires { ⌜ (IsTable (now starts)) × (month ≤ 48) ⌝ }
+    ensures { λ r. ⌜ r ≡ monthStart month ⌝ }
 {
-    start as u32
+    match month {
+        0 => starts[0],
+        1 => starts[1],
+        2 => starts[2],
+        3 => starts[3],
+        4 => starts[4],
+        5 => starts[5],
+        6 => starts[6],
+        7 => starts[7],
+        8 => starts[8],
+        9 => starts[9],
+        10 => starts[10],
+        11 => starts[11],
+        12 => starts[12],
+        13 => starts[13],
+        14 => starts[14],
+        15 => starts[15],
+        16 => starts[16],
+        17 => starts[17],
+        18 => starts[18],
+        19 => starts[19],
+        20 => starts[20],
+        21 => starts[21],
+        22 => starts[22],
+        23 => starts[23],
+        24 => starts[24],
+        25 => starts[25],
+        26 => starts[26],
+        27 => starts[27],
+        28 => starts[28],
+        29 => starts[29],
+        30 => starts[30],
+        31 => starts[31],
+        32 => starts[32],
+        33 => starts[33],
+        34 => starts[34],
+        35 => starts[35],
+        36 => starts[36],
+        37 => starts[37],
+        38 => starts[38],
+        39 => starts[39],
+        40 => starts[40],
+        41 => starts[41],
+        42 => starts[42],
+        43 => starts[43],
+        44 => starts[44],
+        45 => starts[45],
+        46 => starts[46],
+        47 => starts[47],
+        _ => starts[48],
+    }
+}
+
+// The same by the table itself, wide enough for sums of days.
+pub fn first_start(month: u32) -> u32
+    requires { ⌜ month ≤ 48 ⌝ }
+    ensures { λ r. ⌜ (r ≡ monthStart month) × (r < 1500) ⌝ }
+{
+    entry(&STARTS, month) as u32
 }
 
 // The day number at which a month of this century or the next starts.
-pub fn month_start(starts: &[u16; 1200], month: usize) -> u32
-    requires { ⌜ (IsTable (now starts)) × (month < 2400) ⌝ }
+pub fn month_start(month: u32) -> u32
+    requires { ⌜ month < 2400 ⌝ }
     ensures { λ r. ⌜ r ≡ monthStart month ⌝ }
 {
-    wide(starts[month % 1200]) + (month / 1200) as u32 * 36525
+    month / 48 * 1461 + first_start(month % 48)
 }
 
-// The month of this century or the next that a day is in. Four years are 48 months and 1,461 days, and no month starts
-// more than 78 / 48 days before its even share of them: so the day is in the month of its share, or in the one before.
-pub fn month_of(starts: &[u16; 1200], day: u32) -> usize
-    requires { ⌜ (IsTable (now starts)) × (day < 73000) ⌝ }
-    ensures { λ r. ⌜ InMonth day r ⌝ }
+// A month of this century or the next, and how many days of it are before a day.
+pub struct Place {
+    pub month: u32,
+    pub past: u32,
+}
+
+// 1 where a day is before another, else 0.
+fn before(day: u32, start: u32) -> u32
+    ensures { λ r. ⌜ r ≡ isBefore day start ⌝ }
 {
-    let month = ((48 * day + 78) / 1461) as usize;
-    if month_start(starts, month) <= day {
-        return month;
+    if day < start { 1 } else { 0 }
+}
+
+// The month of this century or the next that a day is in, and its place there. No month starts more than 78 / 48 days
+// before its even share of the four years: so the day is in the month of its share, or in the one before.
+pub fn place_of(day: u32) -> Place
+    requires { ⌜ day < 73000 ⌝ }
+    ensures { λ r. ⌜ StandsIn day r ⌝ }
+{
+    let cycle = day / 1461;
+    let rest = day % 1461;
+    let share = (48 * rest + 78) / 1461;
+    let month = share - before(rest, first_start(share));
+    let start = first_start(month);
+    Place {
+        month: cycle * 48 + month,
+        past: rest - start,
     }
-    month - 1
 }
