@@ -13,7 +13,7 @@ export RT_JOBS := $(shell tools/jobs.sh)
 
 # The crates that export functions to C, each an object of its own in libfm3130.a: build/native for this machine,
 # build/official for x86-64.
-ARCHIVES := rig single line narrow mend sleep master handheld capture proving trim rig31 rig31set
+ARCHIVES := rig view single line narrow mend sleep master handheld capture proving trim rig31 rig31set
 
 # Where `make install` puts the library; DESTDIR goes before it.
 PREFIX ?= /usr/local
@@ -157,7 +157,6 @@ else
 	@echo "counts: docs/SPEED.md stores those of x86-64; this machine is $(MACHINE)"
 endif
 
-fuzz: lib ## chosen bytes at the archive's C boundary, three targets for SECONDS=200 each
 fuzz: lib ## chosen bytes at the archive's C boundary, four targets for SECONDS=200 each
 	@tools/setup.sh fuzz
 	@tools/fuzz.sh $(SECONDS) entries

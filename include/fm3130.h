@@ -448,7 +448,7 @@ struct fm3130_shown fm3130_lamps(uint8_t *image, uint64_t image_length, uint8_t 
  *   6      start + length passes 8,192 or 15, the end of the chosen bytes; the sum is exact, it
  *          does not wrap
  *
- * Proved: ViewNumberSettled, crates/rig/specs/View.antt. Allocates nothing, keeps nothing,
+ * Proved: ViewNumberSettled, crates/view/specs/View.antt. Allocates nothing, keeps nothing,
  * thread-safe on distinct buffers.
  */
 uint64_t fm3130_view_number(const uint8_t *image, uint64_t image_length, const uint8_t *memory,
@@ -468,7 +468,7 @@ uint64_t fm3130_view_number(const uint8_t *image, uint64_t image_length, const u
  * bytes there. Under every other number the part is empty: the address is memory, and none of its
  * bytes belong to the part.
  *
- * Tested, not proved (the proved viewer is `view` in crates/rig/src/view.rt, for callers in
+ * Tested, not proved (the proved viewer is `view` in crates/view/src/lib.rt, for callers in
  * Rattle: an exported function cannot return a reference). Allocates nothing, keeps nothing,
  * thread-safe on distinct buffers.
  */

@@ -11,7 +11,7 @@ use lib.ListN.{length}
 use Rattle.device.specs.Chip.{memorySize}
 use Rattle.device.specs.Limits.{wellFormed}
 use Rattle.device.specs.Numbers.{accepted, notHeld}
-use Rattle.rig.specs.Image.{imageOf}
+use Rattle.image.specs.Image.{imageOf}
 use Rattle.holding.specs.Bus.{mayAsk, masterNumber, holderNumber}
 use Rattle.handheld.specs.Outcome.{askOf, callOf}
 use Rattle.holding.specs.declared.Master.{Master}

@@ -13,7 +13,7 @@ ghost use Rattle.calendar.specs.Mend.{rangedOf, mendedOf};
 
 mod carries;
 mod fields;
-pub mod months;
+mod months;
 
 use crate::carries::highest;
 use crate::fields::clipped_date;
@@ -99,7 +99,7 @@ impl Calendar {
 
     // The next second of a valid calendar. Each field takes the carry of the one below it; the hours carry at
     // midnight, and that moves both the day of the week and the date.
-    pub fn tick(self) -> Advanced
+    fn tick(self) -> Advanced
         requires { ⌜ T (isValid self) ⌝ }
         ensures { λ r. ⌜ r ≡ tickOf self ⌝ }
     {

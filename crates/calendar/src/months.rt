@@ -37,7 +37,7 @@ fn last_of_february(year: u8) -> u8
 }
 
 // The last date of a month, all as two decimal digits; 0 where the byte is no month.
-pub fn last_date(month: u8, year: u8) -> u8
+pub(crate) fn last_date(month: u8, year: u8) -> u8
     ensures { λ r. ⌜ r ≡ pick (inField 1 12 month) (bcd (monthLength (value month) (value year))) 0 ⌝ }
 {
     match month {

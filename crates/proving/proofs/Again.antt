@@ -21,7 +21,7 @@ use Rattle.device.specs.declared.State.{State}
 use Rattle.device.specs.declared.Answered.{Answered}
 use Rattle.device.proofs.Entry.{ready}
 use Rattle.device.proofs.Wellformed.{event-ok}
-use Rattle.rig.proofs.Images.{image-decode}
+use Rattle.image.proofs.Images.{image-decode}
 use Rattle.eight.specs.Eight.{bit, lampNext}
 use Rattle.lamps.specs.Step.{markBy, gathered, followed, stepOf}
 use Rattle.lamps.specs.Statement.{answeredBy, provenBy}

@@ -29,7 +29,8 @@ use Rattle.companion.specs.Part.{pinOf}
 use Rattle.device.proofs.Cases.{happening-clock, idle-clock}
 use Rattle.device.proofs.Entry.{limits-of}
 use Rattle.image.specs.Image.{imageOf}
-use Rattle.resident.specs.Resident.{Left, Answered}
+use Rattle.clocking.specs.Clocking.{Left}
+use Rattle.resident.specs.Answering.{Answered}
 use Rattle.resident.specs.Quiet.{quietOf}
 
 module _ (s : State) where

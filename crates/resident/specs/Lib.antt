@@ -1,6 +1,3 @@
 -- SPDX-License-Identifier: Apache-2.0
-pub mod Resident
+pub mod Answering
 pub mod Quiet
-pub mod Desk
-pub mod Incoming
-pub mod Outgoing

@@ -14,14 +14,16 @@ ghost use Rattle.device.specs.Event.{onWire, second, lost, gone, returned, even
 ghost use Rattle.device.specs.declared.State.{State};
 ghost use Rattle.image.specs.Image.{imageSize, imageOf, candidate};
 ghost use Rattle.image.specs.Accepting.{isImage};
-ghost use Rattle.resident.specs.Resident.{Accepted, Becomes, Left, Answered};
+ghost use Rattle.clocking.specs.Clocking.{Accepted, Left};
+ghost use Rattle.desk.specs.Lying.{Becomes};
+ghost use Rattle.resident.specs.Answering.{Answered};
 ghost use Rattle.resident.specs.Quiet.{quietOf};
 use crate::Told;
-use crate::send::clock;
-use crate::tick::tick;
 use calendar::Rolled;
+use clocking::send::clock;
 use companion::pin::pin_by;
 use companion::power::por_set;
+use desk::tick::tick;
 use device::State;
 use image::write::write_over;
 

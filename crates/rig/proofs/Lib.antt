@@ -4,3 +4,6 @@ pub mod Ends
 pub mod Pieces
 pub mod Calls
 pub mod Unique
+pub mod Ledger
+pub mod Inside
+pub mod Rowing

@@ -65,14 +65,14 @@ rest-kept a a₀ i v e =
 -- the loop's end
 pub run-done : (s₀ s : State) (m₀ m es a₀ a : List ℕ) (i : ℕ) → i ≤ length es → length es ≤ i
     → following (take i a) (runOf s m (drop i es)) ≡ runOf s₀ m₀ es → drop i a ≡ drop i a₀
-    → RanThrough s₀ m₀ es a₀ s m a
-run-done s₀ s m₀ m es a₀ a i h g e d =
+    → (b : List ℕ) → b ≡ imageOf s → RanThrough s₀ m₀ es a₀ b m a
+run-done s₀ s m₀ m es a₀ a i h g e d b w₀ =
     let w : following (take i a) (record { state = s; memory = m; answers = [] }) ≡ runOf s₀ m₀ es =
     rw (run-end s m es i g) at e in
     let n : i ≡ length es = omega arith in
     let front : take i a ≡ runOf s₀ m₀ es .answers = sym (append-nil (take i a)) ∙ ap (λ (r : Ended). r .answers) w in
     record {
-      state = ap (λ (r : Ended). r .state) w;
+      image = w₀ ∙ ap (λ (r : Ended). imageOf (r .state)) w;
       memory = ap (λ (r : Ended). r .memory) w;
       answers = sym (take-append-drop i a) ∙ rw (d, front, n) refl;
     }
@@ -116,8 +116,6 @@ module _ (i m es a : List ℕ) where
       outcome-written k l = rw (eq-eqb (length m) memorySize h, d, k, le-leb (length es) (length a) l)
 
       -- what was done is the whole outcome
-      pub outcome-done : (t : State) (i′ m′ a′ : List ℕ) → allKnown es ≡ true → length es ≤ length a
-          → RanThrough s m es a t m′ a′ → i′ ≡ imageOf t
+      pub outcome-done : (i′ m′ a′ : List ℕ) → allKnown es ≡ true → length es ≤ length a → RanThrough s m es a i′ m′ a′
           → outcomeWith (record { number = accepted; count = length es }) i′ m′ a′ ≡ outcomeOf i m es a
-      outcome-done t i′ m′ a′ k l r e =
-          rw (e, r .state, r .memory, r .answers) (sym (outcome-written k l))
+      outcome-done i′ m′ a′ k l r = rw (r .image, r .memory, r .answers) (sym (outcome-written k l))

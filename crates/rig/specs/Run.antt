@@ -1,6 +1,6 @@
 -- SPDX-License-Identifier: Apache-2.0
 -- The list run (01, Entries: "A second entry runs a list of events"), refusals too. `RunSettled` is its whole outcome.
---   Ended, following, runOf         a list of events, one by one; RanThrough, of what a function returns and leaves
+--   Ended, following, runOf         a list of events, one by one; RanThrough, of what a function leaves
 --   allKnown, Outcome, outcomeOf    every event byte is one of the eight; all that a caller can see of the entry
 -- Assumes nothing.
 use Prim.Native.Nat.{ℕ}
@@ -43,9 +43,9 @@ runOf s m (e ∷ es) =
 abbrev pub answersOver : Ended → List ℕ → List ℕ → List ℕ
 answersOver r es a = r .answers ++ drop (length es) a
 
--- Auxiliary: what a function returns and leaves are those of a list of events.
-pub record RanThrough (s : State) (m es a : List ℕ) (r : State) (m′ a′ : List ℕ) : Type 0 where
-  pub state : r ≡ runOf s m es .state
+-- Auxiliary: what a function leaves in the image and the lent buffers is that of a list of events.
+pub record RanThrough (s : State) (m es a i′ m′ a′ : List ℕ) : Type 0 where
+  pub image : i′ ≡ imageOf (runOf s m es .state)
   pub memory : m′ ≡ runOf s m es .memory
   pub answers : a′ ≡ answersOver (runOf s m es) es a
 

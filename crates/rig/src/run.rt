@@ -1,15 +1,16 @@
 // SPDX-License-Identifier: Apache-2.0
 // A list of events on a state's image and the lent buffers, and the fresh image. All that can be refused is tested
-// first. The state is read once, its limits hold through all events, and it is written once at the end.
+// first. An event changes the bytes of the image that it must.
 ghost use mathlib.Core.Path.{_≡_};
 ghost use mathlib.Core.Bool.{true};
 ghost use Prim.Native.Nat.{_≤_};
 ghost use lib.ListN.{length};
-ghost use Rattle.device.specs.Chip.{memorySize};
-ghost use Rattle.device.specs.Limits.{wellFormed};
+ghost use Rattle.image.specs.Image.{candidate};
+ghost use Rattle.clocking.specs.Clocking.{Accepted};
 ghost use Rattle.rig.specs.Run.{allKnown, RanThrough, RunSettled};
 ghost use Rattle.rig.specs.Fresh.{FreshSettled};
 use crate::Ran;
+use crate::rows::row;
 use device::State;
 use device::numbers::ACCEPTED;
 use device::numbers::SHORT_ANSWERS;
@@ -17,12 +18,10 @@ use device::numbers::UNKNOWN_EVENT;
 use device::numbers::WRONG_MEMORY;
 use device::numbers::WRONG_STATE;
 use frame::bytes::copy;
-use image::Decoded;
 use image::LENGTH;
 use image::MEMORY;
-use image::read::decode;
+use image::accept::is_image;
 use image::write::image_of;
-use image::write::write_over;
 
 // Whether every event byte is one of the eight. All are tested, with no way out of the loop, so that many go at once.
 pub fn all_known(events: &[u8]) -> bool
@@ -37,24 +36,17 @@ pub fn all_known(events: &[u8]) -> bool
     known
 }
 
-// All events, one by one, from a well-formed state: the state they lead to. The answers go to the front of their
-// buffer.
-pub fn run_events(state: State, memory: &mut [u8], events: &[u8], answers: &mut [u8]) -> State
-    requires { ⌜ (wellFormed state ≡ true) × (length (now memory) ≡ memorySize) ⌝ }
+// All events, from an accepted image. The answers go to the front of their buffer.
+pub fn run_events(image: &mut [u8], memory: &mut [u8], events: &[u8], answers: &mut [u8])
+    requires { ⌜ Accepted (now image) (now memory) ⌝ }
     requires { ⌜ (allKnown (now events) ≡ true) × (length (now events) ≤ length (now answers)) ⌝ }
-    ensures { λ r. ⌜ RanThrough state (now (memory .entry)) (now (events .entry)) (now (answers .entry))
-        r (now (memory .exit)) (now (answers .exit)) ⌝ }
+    ensures { λ _. ⌜ RanThrough (candidate (now (image .entry))) (now (memory .entry)) (now (events .entry)) (now (answers .entry))
+        (now (image .exit)) (now (memory .exit)) (now (answers .exit)) ⌝ }
 {
-    let mut at = state;
     let mut i = 0;
     while i < events.len() {
-        let done = at.advance(memory, events[i]);
-        answers[i] = done.answer;
-        let next = done.state;
-        at = next;
-        i += 1;
+        i = row(image, memory, events, answers, i);
     }
-    at
 }
 
 // What a refused list run returns.
@@ -82,17 +74,16 @@ pub extern "C" fn fm3130_run(
     if memory.len() != MEMORY {
         return refuse(WRONG_MEMORY);
     }
-    let Decoded::Good(state) = decode(image) else {
+    if !is_image(image) {
         return refuse(WRONG_STATE);
-    };
+    }
     if !all_known(events) {
         return refuse(UNKNOWN_EVENT);
     }
     if answers.len() < events.len() {
         return refuse(SHORT_ANSWERS);
     }
-    let last = run_events(state, memory, events, answers);
-    write_over(last, image);
+    run_events(image, memory, events, answers);
     Ran {
         number: ACCEPTED as u64,
         count: events.len() as u64,

@@ -10,8 +10,8 @@ use borrow.Author.Tests.{not-true, not-false}
 use Rattle.device.specs.Chip.{memorySize}
 use Rattle.image.specs.declared.Decoded.the-variants.{Good}
 use Rattle.rig.specs.Run.{allKnown}
-use Rattle.rig.specs.Image.{decodeOf}
-use Rattle.rig.proofs.Images.{settled-decode, image-decode, decoded-length}
+use Rattle.image.specs.Image.{decodeOf}
+use Rattle.image.proofs.Images.{settled-decode, image-decode, decoded-length}
 use Rattle.holding.specs.declared.Standing.the-variants.{Known}
 use Rattle.holding.specs.Bus.{mayCall, standingOf}
 use Rattle.holding.proofs.Known.{one-byte}

@@ -1,82 +1,69 @@
 -- SPDX-License-Identifier: Apache-2.0
--- The loop's invariant: what is left of the events, run from here, gives the whole; the state is well-formed, so the
--- next event may be done; the answers past it are as they were. The measure is what is left.
+-- The loop's invariant: the image is accepted, and the events so far lead from the first place to this one. The measure is
+-- what is left.
 -- Assumes nothing.
 use Prim.Native.Nat.{_≤_, _-_}
-use mathlib.Core.Path.{_≡_, _∙_}
+use mathlib.Core.Path.{_≡_, sym, _∙_}
 use mathlib.Core.Bool.{true}
+use native.Mathlib.Omega.{arith}
 use denote.Ref.{now}
-use lib.ListN.{length, take, drop, getD}
+use lib.ListN.{length}
 use borrow.Author.Needs.{needs}
-use Rattle.device.specs.Chip.{memorySize}
-use Rattle.device.specs.Limits.{wellFormed}
-use Rattle.device.proofs.Entry.{ready}
-use Rattle.device.proofs.Wellformed.{event-ok}
-use Rattle.rig.specs.Run.{following, runOf}
-use Rattle.rig.proofs.Runs.{known-at, run-more, run-done, rest-kept}
+use Rattle.image.specs.Image.{candidate}
+use Rattle.image.specs.Accepting.{isImage}
+use Rattle.image.proofs.Accepts.{image-long}
+use Rattle.rig.specs.Led.{Led}
+use Rattle.rig.proofs.Ledger.{begun, led-on, led-through}
 use Rattle.rig.proofs.run.run_events.Statement.{statement}
 use Rattle.rig.proofs.run.run_events.Tie as tie
 
 abbrev Inv-loop : tie.InvT-loop
-Inv-loop memory₀ events answers₀ at₀ i₀ memory answers at i =
-    (i ≤ length events) × (wellFormed at ≡ true) × (length memory ≡ memorySize) × (length answers ≡ length answers₀)
-    × (following (take i answers) (runOf at memory (drop i events)) ≡ runOf at₀ memory₀ events)
-    × (drop i answers ≡ drop i answers₀)
+Inv-loop image₀ memory₀ events answers₀ i₀ image memory answers i =
+    (isImage image ≡ true) × Led events (candidate image₀) memory₀ answers₀ 0 (candidate image) memory answers i
 
 abbrev μ-loop : tie.MeasureT-loop
-μ-loop memory₀ events answers₀ at₀ i₀ memory answers at i = length events - i
+μ-loop image₀ memory₀ events answers₀ i₀ image memory answers i = length events - i
 
 loop-holds : tie.Need-loop-holds Inv-loop μ-loop
-loop-holds c = search needs
+loop-holds c =
+    let s = c .before .before .before .before in
+    (s .pre .0 .image, begun _ _ _ _ _ (s .pre .0 .image) (s .pre .0 .memory) (omega arith))
 
-shared-slice-read-advance : tie.Need-shared-slice-read-advance Inv-loop μ-loop
-shared-slice-read-advance c = search needs
-
-advance-requires : tie.Need-advance-requires Inv-loop μ-loop
-advance-requires c κs =
-    let l = c .before .before .before .loop in
-    let s = c .before .before .before .before .before .before .before in
-    let k = known-at (now (s .args .events)) (s .pre .1 .0) (l .i) (search needs) in
-    (ready (l .at) (l .memory) (l .inv .2) (l .inv .1), k)
-
-slice-write-answers : tie.Need-slice-write-answers Inv-loop μ-loop
-slice-write-answers c = search needs
-
-add-i : tie.Need-add-i Inv-loop μ-loop
-add-i c = search needs
+row-requires : tie.Need-row-requires Inv-loop μ-loop
+row-requires c κs =
+    let l = c .before .before .before .before .loop in
+    let s = c .before .before .before .before .before .before .before .before .before in
+    let d = l .inv .1 in (
+      record { image = l .inv .0; memory = d .memory },
+      (s .pre .1 .0, c .before .before .before .loop-test .taken, omega (arith, s .pre .1 .1, d .room)),
+    )
 
 loop-less : tie.Need-loop-less Inv-loop μ-loop
-loop-less c = search needs
+loop-less c =
+    let w = c .before .before .before .before .before .before .row .ensures in
+    omega (arith, w .further, w .led .inside)
 
 loop-again : tie.Need-loop-again Inv-loop μ-loop
 loop-again c =
-    let l = c .before .before .before .before .before .before .before .loop in
-    let s = c .before .before .before .before .before .before .before .before .before .before .before in
-    let v = c .before .before .before .advance in
-    let d = v .ensures in
-    let es = now (s .args .events) in
-    let o = event-ok (l .at) (l .memory) (getD es (l .i) 0) (l .inv .1) (l .inv .2) in (
-      search needs,
-      rw (d .result) (o .state),
-      rw (d .memory) (o .memory),
-      search needs,
-      rw (d .result, d .memory)
-          (run-more (l .at) (l .memory) es (l .answers) (l .i) (search needs) (search needs) ∙ l .inv .4),
-      rest-kept (l .answers) (now (s .args .answers)) (l .i) (v .result .answer) (l .inv .5),
-    )
+    let w = c .before .before .before .before .before .before .row .ensures in
+    let l = c .before .before .before .before .before .before .before .before .before .before .before .loop in
+    (w .image, led-on _ _ _ _ _ _ _ _ _ _ _ _ _ (l .inv .1) (w .led))
 
 same-length : tie.Need-same-length Inv-loop μ-loop
-same-length c = search needs
+same-length c =
+    let s = c .before .before .before .before .before .before in
+    image-long _ (c .before .loop .inv .0) ∙ sym (image-long _ (s .pre .0 .image))
 
 same-length-2 : tie.Need-same-length-2 Inv-loop μ-loop
 same-length-2 c = search needs
 
+same-length-3 : tie.Need-same-length-3 Inv-loop μ-loop
+same-length-3 c = search needs
+
 returns : tie.Need-returns Inv-loop μ-loop
 returns c =
     let l = c .before .loop in
-    let s = c .before .before .before .before .before in
-    run-done (s .args .state) (l .at) (now (s .args .memory)) (l .memory) (now (s .args .events))
-    (now (s .args .answers)) (l .answers) (l .i) (l .inv .0) (c .loop-test .left) (l .inv .4) (l .inv .5)
+    led-through _ _ _ _ _ _ _ _ (c .loop-test .left) (l .inv .0) (l .inv .1)
 
 pub run-events-spec : {M : Type 1} → statement M
 run-events-spec =
@@ -85,12 +72,10 @@ run-events-spec =
     Inv-loop
     μ-loop
     loop-holds
-    shared-slice-read-advance
-    advance-requires
-    slice-write-answers
-    add-i
+    row-requires
     loop-less
     loop-again
     same-length
     same-length-2
+    same-length-3
     returns)

@@ -1,0 +1,42 @@
+-- SPDX-License-Identifier: Apache-2.0
+-- A part of a list of events, from one place to another. All is auxiliary: the entry's contract speaks of the whole list.
+--   Led     what is left, run from the second place, gives what was left at the first
+--   Rowed   a row of events, one at least, done on the image and the lent buffers
+--   Reached a row that touches no memory, of any length
+-- Assumes nothing.
+use Prim.Native.Nat.{ℕ, _<_, _≤_}
+use mathlib.Core.Path.{_≡_}
+use mathlib.Core.Bool.{true}
+use mathlib.Core.List.{List}
+use lib.ListN.{length, take, drop}
+use Rattle.device.specs.Chip.{memorySize}
+use Rattle.device.specs.Limits.{wellFormed}
+use Rattle.device.specs.declared.State.{State}
+use Rattle.image.specs.Image.{candidate}
+use Rattle.image.specs.Accepting.{isImage}
+use Rattle.rig.specs.Run.{following, runOf}
+
+-- From a state, a memory, answers and a place to those after some more events.
+pub record Led (es : List ℕ) (s : State) (m a : List ℕ) (i : ℕ) (s′ : State) (m′ a′ : List ℕ) (i′ : ℕ) : Type 0 where
+  pub onward : i ≤ i′
+  pub inside : i′ ≤ length es
+  pub room : length a′ ≡ length a
+  pub state : wellFormed s′ ≡ true
+  pub memory : length m′ ≡ memorySize
+  pub run : following (take i′ a′) (runOf s′ m′ (drop i′ es)) ≡ following (take i a) (runOf s m (drop i es))
+  pub rest : drop i′ a′ ≡ drop i′ a
+
+-- The same of the states that lie in two images; the second is accepted too.
+pub record Rowed (es i m a : List ℕ) (from : ℕ) (i′ m′ a′ : List ℕ) (to : ℕ) : Type 0 where
+  pub further : from < to
+  pub image : isImage i′ ≡ true
+  pub led : Led es (candidate i) m a from (candidate i′) m′ a′ to
+
+-- The same where the memory is not touched, and perhaps no event was done.
+pub record Along (es i m a : List ℕ) (from : ℕ) (i′ a′ : List ℕ) (to : ℕ) : Type 0 where
+  pub image : isImage i′ ≡ true
+  pub led : Led es (candidate i) m a from (candidate i′) m a′ to
+
+-- With any memory.
+abbrev pub Reached : List ℕ → List ℕ → List ℕ → ℕ → List ℕ → List ℕ → ℕ → Type 0
+Reached es i a from i′ a′ to = (m : List ℕ) → length m ≡ memorySize → Along es i m a from i′ a′ to
