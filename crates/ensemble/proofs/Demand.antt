@@ -77,7 +77,7 @@ device-is n fourth second h k e = not-true e
 device-is n fourth third h k e = not-true e
 device-is n fourth fourth h k e = λ i. record { place = fourth; here = told-prop (ltb 3 n) h k i }
 
-named-answers : (x : Side) (n : Named) → MayName (to x) n → answers n ≡ true
+pub named-answers : (x : Side) (n : Named) → MayName (to x) n → answers n ≡ true
 unfolding answers
 named-answers x Nobody h = absurd h
 named-answers x (Reads s) h = refl

@@ -27,7 +27,7 @@ use Rattle.wired.specs.Wire.{Heard, nothing, this, told, Bench, Lawful, 
 use Rattle.wired.specs.Wire.{runWire}
 use Rattle.wired.specs.Pulls.{OnePulls}
 
-data Clear : Phase → Phase → Type 0 where
+pub data Clear : Phase → Phase → Type 0 where
   this-idle : {p : Phase} → Clear Idle p
   that-idle : {p : Phase} → Clear p Idle
   both-called : (k b : ℕ) → k < 8 → Clear (Slave k b) (Slave k b)
@@ -70,7 +70,7 @@ module _ (P Q : Parts) (never : (x : Side) (b : ℕ) → MayName (to x) (P .name
     clock-clear p r m c n g d (both-called k b h) =
         slave-clear (placeAt k) k b d (reader-early (calling k b) (clock d ∷ []) h) (early-place k h)
 
-    line-clear : (p r : Phase) (m : P .Cells) (c : P .Desk) (n : Q .Cells) (g : Q .Desk) (x : Line) → Clear p r
+    pub line-clear : (p r : Phase) (m : P .Cells) (c : P .Desk) (n : Q .Cells) (g : Q .Desk) (x : Line) → Clear p r
         → Clear (lined P p m c x .state .phase) (lined Q r n g x .state .phase)
     unfolding lined
     line-clear p r m c n g start h = both-called 0 0 (omega arith)
@@ -93,7 +93,7 @@ module _ (P Q : Parts) (never : (x : Side) (b : ℕ) → MayName (to x) (P .name
     clock-one p r m c n g d that-idle h = refl
     clock-one p r m c n g d (both-called k b e) h = slave-line (placeAt k) k b d (early-place k e)
 
-    line-one : (p r : Phase) (m : P .Cells) (c : P .Desk) (n : Q .Cells) (g : Q .Desk) (x : Line) → Clear p r
+    pub line-one : (p r : Phase) (m : P .Cells) (c : P .Desk) (n : Q .Cells) (g : Q .Desk) (x : Line) → Clear p r
         → (lined P p m c x .line ≡ mastersLine x → ⊥) → lined Q r n g x .line ≡ mastersLine x
     unfolding lined
     line-one p r m c n g start k h = refl
