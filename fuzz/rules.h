@@ -25,9 +25,9 @@ enum { IMAGE_BYTES = 64, MEMORY_BYTES = 8192, LARGE_MEMORY_BYTES = 32768, MOST_T
 /* Byte places in an image, the same in every part. */
 enum { COMPANION_PLACE = 22, MEMORY_PLACE = 23, SUPPLIES_PLACE = 25, PHASE_PLACE = 26, FRONT_BYTES = 22 };
 
-/* What a part allows; `select` are the select bits of a device of a set. The front of an image is all before the addresses: registers, and the calendar's core or the
- * snapshot; `free_bits` are the bits of it that are not fixed at 0. WP1 and WP0 are bits 4 and 3 of byte
- * `protection_place`. */
+/* What a part allows; `select` are the select bits of a device of a set. The front of an image is all before the
+ * addresses: registers, and the calendar's core or the snapshot; `free_bits` are the bits of it that are not fixed
+ * at 0. WP1 and WP0 are bits 4 and 3 of byte `protection_place`. */
 struct limits {
     uint64_t memory_bytes;
     uint64_t register_bytes;

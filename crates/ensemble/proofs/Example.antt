@@ -141,7 +141,11 @@ example-demanded j k a b v =
 pub example-outcome : ExampleOutcome
 unfolding hears ownByte happening eventOn lined clocked receivedAt kept pushed sentBit placeAt opened answers slaveNames
     slaveNamesFor putByte aimOf storeOf writtenOf edgeOf nextCount blankOf lostOf
-example-outcome Kb64 Kb64 a b = record { memory = refl; address = refl; edges = refl; other-memory = refl; other-watchdog = refl; other-edges = refl }
-example-outcome Kb64 Kb256 a b = record { memory = refl; address = refl; edges = refl; other-memory = refl; other-watchdog = refl; other-edges = refl }
-example-outcome Kb256 Kb64 a b = record { memory = refl; address = refl; edges = refl; other-memory = refl; other-watchdog = refl; other-edges = refl }
-example-outcome Kb256 Kb256 a b = record { memory = refl; address = refl; edges = refl; other-memory = refl; other-watchdog = refl; other-edges = refl }
+example-outcome Kb64 Kb64 a b =
+    record { memory = refl; address = refl; edges = refl; other-memory = refl; other-watchdog = refl; other-edges = refl }
+example-outcome Kb64 Kb256 a b =
+    record { memory = refl; address = refl; edges = refl; other-memory = refl; other-watchdog = refl; other-edges = refl }
+example-outcome Kb256 Kb64 a b =
+    record { memory = refl; address = refl; edges = refl; other-memory = refl; other-watchdog = refl; other-edges = refl }
+example-outcome Kb256 Kb256 a b =
+    record { memory = refl; address = refl; edges = refl; other-memory = refl; other-watchdog = refl; other-edges = refl }
