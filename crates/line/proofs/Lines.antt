@@ -41,8 +41,8 @@ use Rattle.frame.specs.Layout.{phaseOf}
 use Rattle.image.specs.Accepting.{isImage}
 use Rattle.image.specs.Image.{companionAt, candidate}
 use Rattle.rig.specs.Run.{answerTo}
-use Rattle.line.specs.Line.{pulls, pullsOf, pulledAt, pullsAt, pullsWith, takenPulls, fetchedOf, lowBit, openedLow, sentPulls}
-use Rattle.line.specs.declared.Pulls.{Pulls}
+use Rattle.line.specs.Line.{Pulls, pulls, pullsOf, pulledAt, pullsAt, pullsWith, takenPulls, fetchedOf, lowBit}
+use Rattle.line.specs.Line.{openedLow, sentPulls}
 use Rattle.image.proofs.Accepts.{image-well}
 
 -- bit 0 of an answer is the line

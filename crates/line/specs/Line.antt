@@ -7,22 +7,24 @@
 --   LineSettled                     the entry's contract
 --   pulledAt, pullsAt               the same by the machine's Clock in a phase; auxiliary to the contracts of the code
 --   takenPulls, sentPulls           the same by the clocks done of a byte that comes in, of one that goes out
+--   isTaken, sideOf, followedLow    a byte's acknowledge, its device, and the line after it, by the phase's number
 -- Assumes nothing.
 use Prim.Native.Nat.{ℕ, _+_, _%_}
 use mathlib.Core.Path.{_≡_}
 use mathlib.Core.Bool.{Bool, true, false, not, cond}
 use mathlib.Core.List.{List}
-use lib.Dec.{eqb, ltb}
+use lib.Dec.{eqb, leb, ltb}
 use lib.ListN.{length}
-use Rattle.wire.specs.Bits.{sentBit}
-use Rattle.wire.specs.Memory.{Cells, byteAt}
+use Rattle.wire.specs.Bits.{pushed, sentBit}
+use Rattle.wire.specs.Slave.{slaveNames, answers}
+use Rattle.wire.specs.Memory.{Cells, isProtected, byteAt}
 use Rattle.wire.specs.Machine.{clocked}
 use Rattle.wire.specs.declared.Side.{Side}
 use Rattle.wire.specs.declared.Side.the-variants.{Memory, Companion}
 use Rattle.wire.specs.declared.Named.{Named}
 use Rattle.wire.specs.declared.Named.the-variants.{Nobody, Reads, Writes}
 use Rattle.wire.specs.declared.Phase.{Phase}
-use Rattle.companion.specs.Part.{loadOf}
+use Rattle.companion.specs.Part.{loadsBadDate, loadOf, guardOf}
 use Rattle.companion.specs.declared.Companion as C
 use Rattle.device.specs.Numbers.{wrongMemory, wrongState}
 use Rattle.device.specs.Chip.{memorySize, fm3130}
@@ -32,7 +34,12 @@ use Rattle.image.specs.Image.{decodeOf}
 use Rattle.rig.specs.Run.{answerTo}
 use Rattle.image.specs.declared.Decoded.{Decoded}
 use Rattle.image.specs.declared.Decoded.the-variants.{Good, Bad}
-use Rattle.line.specs.declared.Pulls.{Pulls}
+
+-- Whether the device pulls a line low: of the next Clock; of the one after it, if the next is low, and if it is high.
+pub record Pulls : Type 0 where
+  pub next : Bool
+  pub low : Bool
+  pub high : Bool
 
 -- The device pulls the next Clock's line low: bit 0 of the answer to event 3 would be 0.
 unfoldable pub pulls : State → List ℕ → Bool
@@ -84,6 +91,19 @@ unfoldable pub takenPulls : ℕ → Bool → Bool → Bool → Pulls
 takenPulls k l h f =
     cond (ltb k 7) (pullsWith false false false) (cond (eqb k 7) (pullsWith false l h) (pullsWith true f f))
 
+-- Auxiliary: whether the byte of a phase's number is acknowledged, seven of its bits known and the last one given, by
+-- the memory's address and the companion.
+unfoldable pub isTaken : ℕ → ℕ → ℕ → C.Companion → Bool → Bool
+isTaken n b a c d =
+    cond (eqb n 1) (answers (slaveNames (pushed b d)))
+    (cond (eqb n 4) (leb (pushed b d) 14)
+    (cond (eqb n 5) (not (isProtected memorySize (guardOf c) a))
+    (cond (eqb n 6) (not (loadsBadDate c (pushed b d))) true)))
+
+-- Auxiliary: the device that the number of a read phase names.
+abbrev pub sideOf : ℕ → Side
+sideOf n = cond (eqb n 7) Memory Companion
+
 -- Auxiliary: the byte that a read of a device sends next.
 unfoldable pub fetchedOf : Side → Cells → C.Companion → ℕ
 fetchedOf Memory m c = byteAt m
@@ -98,6 +118,10 @@ unfoldable pub openedLow : Named → Cells → C.Companion → Bool
 openedLow Nobody m c = false
 openedLow (Reads s) m c = lowBit 0 (fetchedOf s m c)
 openedLow (Writes s) m c = false
+
+-- Auxiliary: whether the device pulls the first line after the byte of a phase's number.
+abbrev pub followedLow : ℕ → ℕ → Cells → C.Companion → Bool
+followedLow n b m c = cond (eqb n 1) (openedLow (slaveNames b) m c) false
 
 -- Auxiliary: a byte b that goes out, where f is the byte at the address.
 unfoldable pub sentPulls : ℕ → ℕ → ℕ → Pulls

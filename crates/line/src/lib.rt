@@ -4,154 +4,130 @@
 // after it. No event is run: the phase and the bytes it serves say it. An entry of its own and an object of its own.
 ghost use mathlib.Core.Path.{_≡_};
 ghost use mathlib.Core.Bool.{Bool, true, false, not, cond};
-ghost use Prim.Native.Nat.{_+_, _*_, _/_, _%_, _<_, _≤_};
+ghost use Prim.Native.Nat.{_+_, _*_, _<_, _≤_};
 ghost use lib.Dec.{leb};
 ghost use lib.ListN.{length, getD};
 ghost use Rattle.wire.specs.Bits.{pushed};
-ghost use Rattle.wire.specs.Slave.{slaveNames, answers};
-ghost use Rattle.wire.specs.Memory.{lent, isProtected};
+ghost use Rattle.wire.specs.Slave.{slaveNames};
+ghost use Rattle.wire.specs.Memory.{lent};
 ghost use Rattle.companion.specs.Part.{loadsBadDate};
 ghost use Rattle.device.specs.Chip.{memorySize};
 ghost use Rattle.image.specs.Image.{imageSize, companionAt, candidate};
 ghost use Rattle.image.specs.Accepting.{isImage};
 ghost use Rattle.line.specs.Line.{pullsOf, pullsWith, toldBy, LineSettled};
-ghost use Rattle.line.specs.Line.{takenPulls, fetchedOf, sentPulls, openedLow};
+ghost use Rattle.line.specs.Line.{isTaken, sideOf, fetchedOf, lowBit, sentPulls, openedLow};
 use companion::map::CONTROL;
-use companion::map::LAST;
 use companion::map::W;
 use companion::map::WP0;
 use device::MEMORY_SIZE;
 use device::numbers::WRONG_MEMORY;
 use device::numbers::WRONG_STATE;
-use frame::layout::phase_of;
 use image::MEMORY;
 use image::accept::is_image;
 use image::read::calendar_at;
 use image::read::pair;
 use weights::has;
-use wire::Named;
-use wire::Phase;
-use wire::Side;
 use wire::bits::push;
 use wire::bits::sent_bit;
-use wire::slave::answers;
-use wire::slave::slave_names;
 use wire::storing::is_protected;
 
-// Whether the device pulls a line low: of the next Clock; of the one after it, if the next is low, and if it is high.
-pub struct Pulls {
-    pub next: bool,
-    pub low: bool,
-    pub high: bool,
-}
+// The answer's bits: the device pulls the next Clock's line; the one after it, if the next is low; if it is high. All
+// ways give the number itself, so that nothing is put together at the end.
+const NEXT: u64 = 0x100;
 
-fn pulled(next: bool, low: bool, high: bool) -> Pulls
-    ensures { λ r. ⌜ r ≡ pullsWith next low high ⌝ }
+const LOW: u64 = 0x200;
+
+const HIGH: u64 = 0x400;
+
+const BOTH: u64 = LOW + HIGH;
+
+// The line after the next, whatever the next is.
+fn both(on: bool) -> u64
+    ensures { λ r. ⌜ r ≡ toldBy (pullsWith false on on) ⌝ }
 {
-    Pulls {
-        next: next,
-        low: low,
-        high: high,
+    if on {
+        return BOTH;
     }
+    0
 }
 
-// A byte that comes in and is taken whatever it is.
-fn taken_pulls(clocks: u8) -> Pulls
-    ensures { λ r. ⌜ r ≡ takenPulls clocks true true false ⌝ }
+// A weight, where the bit of a byte that a clock sends is 0.
+fn if_low(byte: u8, clocks: u8, weight: u64) -> u64
+    requires { ⌜ clocks ≤ 7 ⌝ }
+    ensures { λ r. ⌜ (r ≡ cond (lowBit clocks byte) weight 0) × (r ≤ weight) ⌝ }
 {
-    if clocks < 7 {
-        return pulled(false, false, false);
+    if sent_bit(byte, clocks) {
+        return 0;
     }
-    if clocks == 7 {
-        return pulled(false, true, true);
-    }
-    pulled(true, false, false)
+    weight
 }
 
-// The byte that a read of a device sends next: it lies in the memory, or among the image's registers.
-fn fetched(image: &[u8], memory: &[u8], side: Side) -> u8
+// The byte that a read sends next: it lies in the memory, or among the image's registers.
+fn fetched(image: &[u8], memory: &[u8], number: u8) -> u8
     requires { ⌜ (length (now image) ≡ imageSize) × (length (now memory) ≡ memorySize) ⌝ }
     requires { ⌜ (getD (now image) 22 0 ≤ 14) × (getD (now image) 23 0 * 256 + getD (now image) 24 0 < memorySize) ⌝ }
-    ensures { λ r. ⌜ r ≡ fetchedOf side
+    ensures { λ r. ⌜ r ≡ fetchedOf (sideOf number)
         (lent (now (memory .entry)) (getD (now (image .entry)) 23 0 * 256 + getD (now (image .entry)) 24 0))
         (companionAt (now (image .entry))) ⌝ }
 {
-    match side {
-        Side::Memory => {
-            let at = pair(image[23], image[24]) as usize;
-            memory[at]
-        }
-        Side::Companion => {
-            let at = image[22] as usize;
-            image[at]
-        }
+    if number == 7 {
+        let at = pair(image[23], image[24]) as usize;
+        return memory[at];
     }
+    let at = image[22] as usize;
+    image[at]
 }
 
-// Whether the device pulls the first line after a slave byte's acknowledge: only a byte that is read can do that.
-fn opened_low(image: &[u8], memory: &[u8], byte: u8) -> bool
+// A byte that goes out, by its phase's number.
+fn sent_pulls(image: &[u8], memory: &[u8], number: u8, clocks: u8, byte: u8) -> u64
     requires { ⌜ (length (now image) ≡ imageSize) × (length (now memory) ≡ memorySize) ⌝ }
     requires { ⌜ (getD (now image) 22 0 ≤ 14) × (getD (now image) 23 0 * 256 + getD (now image) 24 0 < memorySize) ⌝ }
-    ensures { λ r. ⌜ r ≡ openedLow (slaveNames byte)
+    ensures { λ r. ⌜ r ≡ toldBy (sentPulls clocks byte (fetchedOf (sideOf number)
         (lent (now (memory .entry)) (getD (now (image .entry)) 23 0 * 256 + getD (now (image .entry)) 24 0))
-        (companionAt (now (image .entry))) ⌝ }
+        (companionAt (now (image .entry))))) ⌝ }
 {
-    let named = slave_names(byte);
-    match named {
-        Named::Nobody => false,
-        Named::Reads(side) => !sent_bit(fetched(image, memory, side), 0),
-        Named::Writes(_) => false,
+    if clocks > 7 {
+        return if_low(fetched(image, memory, number), 0, LOW);
     }
+    if clocks == 7 {
+        return if_low(byte, clocks, NEXT);
+    }
+    if clocks == 0 {
+        let first = fetched(image, memory, number);
+        return if_low(first, clocks, NEXT) + if_low(first, clocks + 1, BOTH);
+    }
+    if_low(byte, clocks, NEXT) + if_low(byte, clocks + 1, BOTH)
 }
 
-// A slave byte.
-fn slave_pulls(image: &[u8], memory: &[u8], clocks: u8, byte: u8) -> Pulls
+// A slave byte that waits for its acknowledge: after it only a byte that is read can pull the line.
+fn opened_pulls(image: &[u8], memory: &[u8], byte: u8) -> u64
     requires { ⌜ (length (now image) ≡ imageSize) × (length (now memory) ≡ memorySize) ⌝ }
     requires { ⌜ (getD (now image) 22 0 ≤ 14) × (getD (now image) 23 0 * 256 + getD (now image) 24 0 < memorySize) ⌝ }
-    ensures { λ r. ⌜ r ≡ takenPulls clocks (answers (slaveNames (pushed byte false)))
-        (answers (slaveNames (pushed byte true))) (openedLow (slaveNames byte)
+    ensures { λ r. ⌜ ((f : Bool) → f ≡ openedLow (slaveNames byte)
         (lent (now (memory .entry)) (getD (now (image .entry)) 23 0 * 256 + getD (now (image .entry)) 24 0))
-        (companionAt (now (image .entry)))) ⌝ }
+        (companionAt (now (image .entry))) → r ≡ toldBy (pullsWith true f f)) ⌝ }
 {
-    if clocks < 7 {
-        return pulled(false, false, false);
+    if byte == 0xA1 {
+        return NEXT + if_low(fetched(image, memory, 7), 0, BOTH);
     }
-    if clocks == 7 {
-        let low = answers(slave_names(push(byte, false)));
-        return pulled(false, low, answers(slave_names(push(byte, true))));
+    if byte == 0xD1 {
+        return NEXT + if_low(fetched(image, memory, 8), 0, BOTH);
     }
-    let after = opened_low(image, memory, byte);
-    pulled(true, after, after)
+    NEXT
 }
 
-// The address byte of a companion write.
-fn pointer_pulls(clocks: u8, byte: u8) -> Pulls
-    ensures { λ r. ⌜ r ≡ takenPulls clocks (leb (pushed byte false) 14) (leb (pushed byte true) 14) false ⌝ }
+// The address byte of a companion write, seven of its bits known: at most 0Eh with a last bit of 0, of 1.
+fn pointer_pulls(byte: u8) -> u64
+    requires { ⌜ byte < 128 ⌝ }
+    ensures { λ r. ⌜ r ≡ toldBy (pullsWith false (leb (pushed byte false) 14) (leb (pushed byte true) 14)) ⌝ }
 {
-    if clocks < 7 {
-        return pulled(false, false, false);
+    if byte < 7 {
+        return BOTH;
     }
-    if clocks == 7 {
-        let low = push(byte, false);
-        let high = push(byte, true);
-        return pulled(false, low <= LAST, high <= LAST);
+    if byte == 7 {
+        return LOW;
     }
-    pulled(true, false, false)
-}
-
-// A data byte for the memory, by the bits of 0Eh and the address.
-fn put_pulls(setup: u8, address: u16, clocks: u8) -> Pulls
-    ensures { λ r. ⌜ r ≡ takenPulls clocks (not (isProtected memorySize (setup / 8 % 4) address))
-        (not (isProtected memorySize (setup / 8 % 4) address)) false ⌝ }
-{
-    if clocks < 7 {
-        return pulled(false, false, false);
-    }
-    if clocks == 7 {
-        let free = !is_protected(MEMORY_SIZE, setup / WP0 % 4, address);
-        return pulled(false, free, free);
-    }
-    pulled(true, false, false)
+    0
 }
 
 // Whether a data byte for the companion is a write of 00h in which W falls while 02h to 08h hold no date and time that
@@ -173,84 +149,46 @@ fn loads_bad_date(image: &[u8], byte: u8) -> bool
     !time.is_valid()
 }
 
-// A data byte for the companion.
-fn store_pulls(image: &[u8], clocks: u8, byte: u8) -> Pulls
-    requires { ⌜ length (now image) ≡ imageSize ⌝ }
-    ensures { λ r. ⌜ r ≡ takenPulls clocks (not (loadsBadDate (companionAt (now (image .entry))) (pushed byte false)))
-        (not (loadsBadDate (companionAt (now (image .entry))) (pushed byte true))) false ⌝ }
+// A byte that comes in, all but its last bit known, by its phase's number: whether it will be acknowledged. A slave byte
+// is one of four, told apart by the last bit in pairs.
+fn taken_pulls(image: &[u8], number: u8, byte: u8) -> u64
+    requires { ⌜ (length (now image) ≡ imageSize) × (byte < 128) ⌝ }
+    ensures { λ r. ⌜ r ≡ toldBy (pullsWith false
+        (isTaken number byte (getD (now (image .entry)) 23 0 * 256 + getD (now (image .entry)) 24 0)
+        (companionAt (now (image .entry))) false)
+        (isTaken number byte (getD (now (image .entry)) 23 0 * 256 + getD (now (image .entry)) 24 0)
+        (companionAt (now (image .entry))) true)) ⌝ }
 {
-    if clocks < 7 {
-        return pulled(false, false, false);
+    match number {
+        1 => both((byte == 0x50) | (byte == 0x68)),
+        4 => pointer_pulls(byte),
+        5 => both(!is_protected(MEMORY_SIZE, image[14] / WP0 % 4, pair(image[23], image[24]))),
+        6 => both(!loads_bad_date(image, push(byte, false))),
+        _ => BOTH,
     }
-    if clocks == 7 {
-        let good = !loads_bad_date(image, push(byte, false));
-        return pulled(false, good, good);
-    }
-    pulled(true, false, false)
 }
 
-// A byte that goes out.
-fn sent_pulls(image: &[u8], memory: &[u8], side: Side, clocks: u8, byte: u8) -> Pulls
-    requires { ⌜ (length (now image) ≡ imageSize) × (length (now memory) ≡ memorySize) ⌝ }
-    requires { ⌜ (getD (now image) 22 0 ≤ 14) × (getD (now image) 23 0 * 256 + getD (now image) 24 0 < memorySize) ⌝ }
-    ensures { λ r. ⌜ r ≡ sentPulls clocks byte (fetchedOf side
-        (lent (now (memory .entry)) (getD (now (image .entry)) 23 0 * 256 + getD (now (image .entry)) 24 0))
-        (companionAt (now (image .entry)))) ⌝ }
-{
-    if clocks > 7 {
-        return pulled(false, !sent_bit(fetched(image, memory, side), 0), false);
-    }
-    if clocks == 7 {
-        return pulled(!sent_bit(byte, clocks), false, false);
-    }
-    if clocks == 0 {
-        let first = fetched(image, memory, side);
-        let then = !sent_bit(first, clocks + 1);
-        return pulled(!sent_bit(first, clocks), then, then);
-    }
-    let then = !sent_bit(byte, clocks + 1);
-    pulled(!sent_bit(byte, clocks), then, then)
-}
-
-// The next two lines, of an accepted image.
-fn pulls_of(image: &[u8], memory: &[u8]) -> Pulls
+// The next two lines, of an accepted image. Outside a transfer no clocks are done.
+fn pulls_of(image: &[u8], memory: &[u8]) -> u64
     requires { ⌜ (isImage (now image) ≡ true) × (length (now memory) ≡ memorySize) ⌝ }
-    ensures { λ r. ⌜ r ≡ pullsOf (candidate (now (image .entry))) (now (memory .entry)) ⌝ }
+    ensures { λ r. ⌜ r ≡ toldBy (pullsOf (candidate (now (image .entry))) (now (memory .entry))) ⌝ }
 {
-    let phase = phase_of(image[26], image[27], image[28], image[29]);
-    match phase {
-        Phase::Idle => pulled(false, false, false),
-        Phase::Slave { clocks, byte } => slave_pulls(image, memory, clocks, byte),
-        Phase::AddressHigh { clocks, byte: _ } => taken_pulls(clocks),
-        Phase::AddressLow {
-            high: _,
-            clocks,
-            byte: _,
-        } => taken_pulls(clocks),
-        Phase::Pointer { clocks, byte } => pointer_pulls(clocks, byte),
-        Phase::Write { side, clocks, byte } => match side {
-            Side::Memory => put_pulls(image[14], pair(image[23], image[24]), clocks),
-            Side::Companion => store_pulls(image, clocks, byte),
-        },
-        Phase::Read { side, clocks, byte } => sent_pulls(image, memory, side, clocks, byte),
+    let number = image[26];
+    let clocks = image[27];
+    let byte = image[28];
+    if number > 6 {
+        return sent_pulls(image, memory, number, clocks, byte);
     }
-}
-
-// A bit of a number, or 0.
-fn bit(on: bool, weight: u64) -> u64
-    ensures { λ r. ⌜ (r ≡ cond on weight 0) × (r ≤ weight) ⌝ }
-{
-    if on {
-        return weight;
+    if clocks < 7 {
+        return 0;
     }
-    0
-}
-
-// The lines as one number: bit 8 is the next Clock's, bits 9 and 10 the one after it.
-fn told(pulls: Pulls) -> u64
-    ensures { λ r. ⌜ r ≡ toldBy pulls ⌝ }
-{
-    bit(pulls.next, 0x100) + bit(pulls.low, 0x200) + bit(pulls.high, 0x400)
+    if clocks == 7 {
+        return taken_pulls(image, number, byte);
+    }
+    if number == 1 {
+        return opened_pulls(image, memory, byte);
+    }
+    NEXT
 }
 
 // What the device does to the next two lines, refused by the numbers 1 and 2; nothing is written.
@@ -264,5 +202,5 @@ pub extern "C" fn fm3130_line(image: &[u8], memory: &[u8]) -> u64
     if !is_image(image) {
         return WRONG_STATE as u64;
     }
-    told(pulls_of(image, memory))
+    pulls_of(image, memory)
 }

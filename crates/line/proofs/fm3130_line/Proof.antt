@@ -1,9 +1,9 @@
 -- SPDX-License-Identifier: Apache-2.0
 -- The ways through the tests of the memory and of the image.
 -- Assumes nothing.
-use mathlib.Core.Path.{sym, ap, _∙_}
+use mathlib.Core.Path.{sym, _∙_}
 use borrow.Author.Tests.{eq-eqb, ne-eqb, not-true, not-false}
-use Rattle.line.specs.Line.{lineOf, toldBy}
+use Rattle.line.specs.Line.{lineOf}
 use Rattle.image.proofs.Accepts.{image-read, image-not-read}
 use borrow.Author.Needs.{needs}
 use Rattle.line.proofs.fm3130_line.Statement.{statement}
@@ -33,18 +33,14 @@ returns-2 c =
 pulls-of-requires : tie.Need-pulls-of-requires
 pulls-of-requires c κs = (sym (c .before .is-image .ensures) ∙ not-false _ (c .if2 .left), c .before .before .if1 .left)
 
-told-requires : tie.Need-told-requires
-told-requires c κs = search needs
-
 returns-3 : tie.Need-returns-3
 unfolding lineOf
 returns-3 c =
-    let h = c .before .before in
     rw (
-      eq-eqb _ _ (h .before .before .if1 .left),
-      image-read _ (sym (h .before .is-image .ensures) ∙ not-false _ (h .if2 .left)),
+      eq-eqb _ _ (c .before .before .before .if1 .left),
+      image-read _ (sym (c .before .before .is-image .ensures) ∙ not-false _ (c .before .if2 .left)),
     )
-    (c .told .ensures ∙ ap toldBy (c .before .pulls-of .ensures))
+    (c .pulls-of .ensures)
 
 pub fm3130-line-spec : {M : Type 1} → statement M
 fm3130-line-spec =
@@ -56,5 +52,4 @@ fm3130-line-spec =
     cast-result-2
     returns-2
     pulls-of-requires
-    told-requires
     returns-3)

@@ -1,53 +1,28 @@
 -- SPDX-License-Identifier: Apache-2.0
--- The three ways through the tests of the clocks done.
+-- Twice the byte, and one more.
 -- Assumes nothing.
-use borrow.Author.Tests.{lt-ltb, le-ltb, eq-eqb, ne-eqb}
-use mathlib.Core.Path.{_∙_}
-use Rattle.line.specs.Line.{takenPulls}
-use borrow.Author.Needs.{needs}
+use Prim.Native.Nat.{_+_, _*_, _%_}
+use native.Mathlib.Omega.{arith}
+use borrow.Author.Tests.{le-leb, lt-leb}
+use Rattle.wire.specs.Bits.{pushed}
 use Rattle.line.proofs.pointer_pulls.Statement.{statement}
 use Rattle.line.proofs.pointer_pulls.Tie as tie
 
-pulled-requires : tie.Need-pulled-requires
-pulled-requires c κs = search needs
-
 returns : tie.Need-returns
-unfolding takenPulls
-returns c = rw (lt-ltb _ _ (c .before .if1 .taken)) (c .pulled .ensures)
-
-push-requires : tie.Need-push-requires
-push-requires c κs = search needs
-
-push-requires-2 : tie.Need-push-requires-2
-push-requires-2 c κs = search needs
-
-pulled-requires-2 : tie.Need-pulled-requires-2
-pulled-requires-2 c κs = search needs
+unfolding pushed
+returns c =
+    let b = c .before .args .byte in
+    rw (le-leb (b % 128 * 2) 14 (omega arith), le-leb (b % 128 * 2 + 1) 14 (omega arith))
 
 returns-2 : tie.Need-returns-2
-unfolding takenPulls
-returns-2 c =
-    rw (le-ltb _ _ (c .before .before .before .before .if1 .left), eq-eqb _ _ (c .before .before .before .if2 .taken))
-    (c .pulled2 .ensures ∙ rw (c .before .before .push .ensures, c .before .push2 .ensures))
-
-pulled-requires-3 : tie.Need-pulled-requires-3
-pulled-requires-3 c κs = search needs
+unfolding pushed
+returns-2 c = rw (c .if2 .taken)
 
 returns-3 : tie.Need-returns-3
-unfolding takenPulls
+unfolding pushed
 returns-3 c =
-    rw (le-ltb _ _ (c .before .before .if1 .left), ne-eqb _ _ (c .before .if2 .left))
-    (c .pulled3 .ensures)
+    let b = c .before .before .args .byte in
+    rw (lt-leb (b % 128 * 2) 14 (omega arith), lt-leb (b % 128 * 2 + 1) 14 (omega arith))
 
 pub pointer-pulls-spec : {M : Type 1} → statement M
-pointer-pulls-spec =
-    tie.close
-    (tie.spec
-    pulled-requires
-    returns
-    push-requires
-    push-requires-2
-    pulled-requires-2
-    returns-2
-    pulled-requires-3
-    returns-3)
+pointer-pulls-spec = tie.close (tie.spec returns returns-2 returns-3)
