@@ -12,16 +12,16 @@ ghost use Rattle.device.specs.declared.State.{State};
 ghost use Rattle.image.specs.Image.{imageSize, imageOf};
 ghost use Rattle.clocking.specs.Outgoing.{sideOf, fetchedFrom, onward, finishedBy, closedBy};
 ghost use Rattle.clocking.specs.Clocking.{Accepted, Left, clockOn};
-ghost use Rattle.desk.specs.Lying.{Becomes};
+ghost use Rattle.inplace.specs.Lying.{Becomes};
 use crate::receive::receive;
-use desk::registers::load;
-use desk::registers::loaded;
 use device::MEMORY_SIZE;
 use image::read::pair;
+use inplace::registers::load;
+use inplace::registers::loaded;
 use wire::bits::sending_line;
 
 // The byte that a read sends: from the memory at its address, or a register.
-fn fetched(image: &[u8], memory: &[u8], number: u8) -> u8
+pub fn fetched(image: &[u8], memory: &[u8], number: u8) -> u8
     requires { ⌜ (length (now image) ≡ imageSize) × (length (now memory) ≡ memorySize) ⌝ }
     requires { ⌜ (getD (now image) 22 0 ≤ LAST) × (getD (now image) 23 0 * 256 + getD (now image) 24 0 < memorySize) ⌝ }
     ensures { λ r. ⌜ ((s : State) → now (image .entry) ≡ imageOf s → r ≡ fetchedFrom (sideOf number) s (now (memory .entry))) ⌝ }

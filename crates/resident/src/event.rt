@@ -15,7 +15,7 @@ ghost use Rattle.device.specs.declared.State.{State};
 ghost use Rattle.image.specs.Image.{imageSize, imageOf, candidate};
 ghost use Rattle.image.specs.Accepting.{isImage};
 ghost use Rattle.clocking.specs.Clocking.{Accepted, Left};
-ghost use Rattle.desk.specs.Lying.{Becomes};
+ghost use Rattle.inplace.specs.Lying.{Becomes};
 ghost use Rattle.resident.specs.Answering.{Answered};
 ghost use Rattle.resident.specs.Quiet.{quietOf};
 use crate::Told;
@@ -23,9 +23,9 @@ use calendar::Rolled;
 use clocking::send::clock;
 use companion::pin::pin_by;
 use companion::power::por_set;
-use desk::tick::tick;
 use device::State;
 use image::write::write_over;
+use inplace::tick::tick;
 
 // Where the supplies lie, and their numbers.
 const SUPPLIES: usize = 25;

@@ -8,7 +8,7 @@ use mathlib.Core.Bool.{Bool, true, false, cond, not, _&&_, false≢true}
 use mathlib.Core.List.{List}
 use native.Mathlib.Omega.{arith}
 use lib.Dec.{eqb}
-use lib.ListN.{length, getD, set}
+use lib.ListN.{getD, set}
 use borrow.Author.Tests.{eqb-true, eqb-false, not-true}
 use Rattle.weights.specs.Weight.{has}
 use Rattle.wire.specs.Bits.{pushed, sentBit}
@@ -19,12 +19,12 @@ use Rattle.wire.specs.Memory.{Cells, lent}
 use Rattle.wire.specs.declared.Side.the-variants.{Memory, Companion}
 use Rattle.wire.specs.declared.Phase.{Phase}
 use Rattle.wire.specs.declared.Phase.the-variants.{Idle, Slave, AddressHigh, AddressLow, Pointer, Write, Read}
-use Rattle.wire.proofs.Clock.{received-inside, sent-within}
+use Rattle.wire.proofs.Clock.{received-inside, sent-first, sent-within}
 use Rattle.wire.proofs.Tests.{by-test, and-split, and-join}
 use Rattle.bus.specs.Limits.{isIdle, powerWithin}
 use Rattle.bus.specs.declared.Power.{Power}
 use Rattle.bus.specs.declared.Power.the-variants.{On, Backup, Off}
-use Rattle.calendar.specs.Next.{isValid, nextOf}
+use Rattle.calendar.specs.Next.{isValid}
 use Rattle.calendar.proofs.Tests.{true-test, test-true}
 use Rattle.calendar.proofs.Next.{next-valid}
 use Rattle.companion.specs.Map.{OSCEN}
@@ -32,7 +32,7 @@ use Rattle.companion.specs.Part.{tickOf}
 use Rattle.companion.specs.Tick.{countedOf}
 use Rattle.companion.specs.declared.Companion as desk
 use Rattle.device.specs.Answer.{pinShown}
-use Rattle.device.specs.Bus.{withPhase, withCompanion}
+use Rattle.device.specs.Bus.{withPhase, withCompanion, clockedWith}
 use Rattle.device.specs.Chip.{fm3130, Done, doneOf}
 use Rattle.device.specs.Event.{onWire, happening, still, eventOn, eventOf}
 use Rattle.device.specs.Limits.{wellFormed}
@@ -42,7 +42,8 @@ use Rattle.device.proofs.Cases.{happening-clock, tick-supplied}
 use Rattle.device.proofs.Entry.{limits-of}
 use Rattle.frame.specs.Layout.{transfer, transferOf}
 use Rattle.image.specs.Image.{imageOf}
-use Rattle.desk.specs.Desk.{isTicking}
+use Rattle.inplace.specs.Desk.{isTicking}
+use Rattle.clocking.specs.Outgoing.{sideOf, fetchedFrom}
 use Rattle.rig.specs.Run.{answerTo}
 
 -- The same byte of the same transfer, with so many clocks done and these bits.
@@ -67,7 +68,7 @@ own-bits (Write Companion k b) = refl
 own-bits (Read Memory k b) = refl
 own-bits (Read Companion k b) = refl
 
-bits-transfer : (p : Phase) (k b : ℕ) → 0 < transferOf p .phase
+pub bits-transfer : (p : Phase) (k b : ℕ) → 0 < transferOf p .phase
     → transferOf (withBits p k b) ≡ transfer (transferOf p .phase) k b (transferOf p .first)
 unfolding withBits
 bits-transfer Idle k b h = absurd (omega arith)
@@ -86,7 +87,7 @@ module _ (i : List ℕ) (s : State) (e : i ≡ imageOf s) where
   unfolding imageOf
   number-lies = rw e
 
-  clocks-lie : getD i 27 0 ≡ transferOf (s .phase) .clocks
+  pub clocks-lie : getD i 27 0 ≡ transferOf (s .phase) .clocks
   unfolding imageOf
   clocks-lie = rw e
 
@@ -171,6 +172,28 @@ module _ (m : Cells) (c : desk.Companion) (k b : ℕ) (d : Bool) where
       ap (λ (x : Half desk.Companion). beyond fm3130 m x)
       (sent-within (companionRead (fm3130 .load) (fm3130 .loaded)) c k b d (λ e. omega arith) l)
 
+-- the first Clock of a byte that goes out
+first-clocked : (s : State) (m : List ℕ) (b : ℕ) (d : Bool) (p : Phase) → 6 < transferOf p .phase
+    → (f : ℕ) → f ≡ fetchedFrom (sideOf (transferOf p .phase)) s m
+    → clocked fm3130 (withBits p 0 b) (lent m (s .address)) (s .companion) d
+    ≡ out fm3130 (withBits p 1 f) (lent m (s .address)) (s .companion) (d && sentBit 0 f)
+unfolding clocked withBits
+first-clocked s m b d Idle h f e = absurd (omega arith)
+first-clocked s m b d (Slave j a) h f e = absurd (omega arith)
+first-clocked s m b d (AddressHigh j a) h f e = absurd (omega arith)
+first-clocked s m b d (AddressLow g j a) h f e = absurd (omega arith)
+first-clocked s m b d (Pointer j a) h f e = absurd (omega arith)
+first-clocked s m b d (Write Memory j a) h f e = absurd (omega arith)
+first-clocked s m b d (Write Companion j a) h f e = absurd (omega arith)
+first-clocked s m b d (Read Memory j a) h f e =
+    rw e
+    (ap (λ (x : Half Cells). beside fm3130 (s .companion) x)
+    (sent-first (memoryRead (fm3130 .fetch) (fm3130 .step-on)) (lent m (s .address)) 0 b d refl))
+first-clocked s m b d (Read Companion j a) h f e =
+    rw e
+    (ap (λ (x : Half desk.Companion). beyond fm3130 (lent m (s .address)) x)
+    (sent-first (companionRead (fm3130 .load) (fm3130 .loaded)) (s .companion) 0 b d refl))
+
 -- the master's line by the event's last bit
 abbrev pub high : ℕ → Bool
 high e = eqb (e % 2) 1
@@ -210,6 +233,18 @@ module _ (s : State) (m : List ℕ) (e : ℕ) (h : e / 2 ≡ 1) where
         clock-on o
         ∙ rw (q, o) (ap doneOf (outgoing-clocked (lent m (s .address)) (s .companion) k b (high e) p g z l))
 
+  pub first-event : s .power ≡ On → (p : Phase) (b : ℕ) → 6 < transferOf p .phase → s .phase ≡ withBits p 0 b
+      → (f : ℕ) → f ≡ fetchedFrom (sideOf (transferOf p .phase)) s m
+      → eventOf s m e ≡ turned s (withBits p 1 f) m (high e && sentBit 0 f)
+  first-event o p b g q f r =
+      let c = first-clocked s m b (high e) p g f r in
+      clock-on o ∙ rw (q, o) (ap doneOf c)
+
+  -- any Clock in a transfer
+  pub clock-event : s .power ≡ On → eventOf s m e ≡ clockedWith s m (s .phase) (eqb e 3)
+  unfolding eventOn lined
+  clock-event o = rw (o, happening-clock e h)
+
   idle-by : (q : Power) → s .power ≡ q → s .phase ≡ Idle
       → eventOn q (happening e) s m ≡ turned s (s .phase) m (high e)
   unfolding eventOn lined clocked
@@ -238,15 +273,17 @@ pub record Ticking (s : State) : Type 0 where
 pub ticking-facts : (s : State) → isTicking s ≡ true → Ticking s
 unfolding isTicking
 ticking-facts s h =
-    let f = and-split (isSupplied (s .power) && not (has (s .companion .registers .trim) OSCEN)) (isValid (s .companion .core)) h in
+    let runs = isSupplied (s .power) && not (has (s .companion .registers .trim) OSCEN) in
+    let f = and-split runs (isValid (s .companion .core)) h in
     let g = and-split (isSupplied (s .power)) (not (has (s .companion .registers .trim) OSCEN)) (f .0) in
     record { supplied = g .0; runs = not-true _ (g .1); valid = f .1 }
 
 pub ticking-kept : (s : State) → isTicking s ≡ true → isTicking (withCompanion s (countedOf (s .companion))) ≡ true
 unfolding isTicking
 ticking-kept s h =
-    let f = and-split (isSupplied (s .power) && not (has (s .companion .registers .trim) OSCEN)) (isValid (s .companion .core)) h in
-    and-join _ _ (f .0) (test-true _ (next-valid (s .companion .core) (true-test _ (f .1))))
+    let runs = isSupplied (s .power) && not (has (s .companion .registers .trim) OSCEN) in
+    let f = and-split runs (isValid (s .companion .core)) h in
+    and-join runs _ (f .0) (test-true _ (next-valid (s .companion .core) (true-test _ (f .1))))
 
 counts : (c : desk.Companion) → has (c .registers .trim) OSCEN ≡ false → tickOf c ≡ countedOf c
 unfolding tickOf
@@ -257,7 +294,10 @@ pub tick-event : (s : State) (m : List ℕ) (e : ℕ) → isTicking s ≡ true �
 unfolding happening
 tick-event s m e h q =
     let f = ticking-facts s h in
-    rw q (tick-supplied s m (f .supplied) ∙ ap (λ (c : desk.Companion). still (withCompanion s c) m) (counts (s .companion) (f .runs)))
+    rw q
+    (tick-supplied s m (f .supplied)
+    ∙ ap (λ (c : desk.Companion). still (withCompanion s c) m) (counts (s .companion) (f .runs)))
 
-pub still-answer : (s : State) (m : List ℕ) (v : ℕ) → v ≡ 2 * pinShown (s .power) (s .companion) → v + 1 ≡ answerTo (still s m)
+pub still-answer : (s : State) (m : List ℕ) (v : ℕ) → v ≡ 2 * pinShown (s .power) (s .companion)
+    → v + 1 ≡ answerTo (still s m)
 still-answer s m v q = ap (λ (x : ℕ). x + 1) q

@@ -7,7 +7,7 @@ use mathlib.Core.Path.{_≡_, refl, sym, ap, _∙_}
 use mathlib.Core.Bool.{true}
 use mathlib.Core.List.{List}
 use native.Mathlib.Omega.{arith}
-use lib.ListN.{length, take, drop, getD, set, length-set}
+use lib.ListN.{length, drop, getD, set, length-set}
 use lib.Seq.{drop-drop}
 use Rattle.wire.proofs.Tests.{and-join}
 use Rattle.device.specs.Chip.{memorySize, Done}
@@ -20,7 +20,7 @@ use Rattle.image.specs.Image.{imageOf, candidate}
 use Rattle.image.specs.Accepting.{isImage}
 use Rattle.image.proofs.Images.{candidate-of}
 use Rattle.image.proofs.Accepts.{image-well, image-written}
-use Rattle.rig.specs.Run.{answerTo, runOf, RanThrough}
+use Rattle.rig.specs.Run.{answerTo, RanThrough}
 use Rattle.rig.specs.Led.{Led, Rowed}
 use Rattle.clocking.specs.Clocking.{Accepted}
 use Rattle.resident.specs.Answering.{Answered}

@@ -3,12 +3,14 @@
 -- Assumes nothing.
 use Prim.Native.Nat.{ℕ, _+_, _*_, _/_, _%_, _<_, _≤_}
 use mathlib.Core.Path.{_≡_, refl, sym, ap, _∙_}
-use mathlib.Core.Bool.{Bool, true, cond, _&&_}
+use mathlib.Core.Bool.{Bool, true, false, cond, _&&_, false≢true}
 use mathlib.Core.List.{List}
 use native.Mathlib.Omega.{arith}
+use lib.Dec.{eqb}
 use lib.ListN.{length, getD, set, length-set}
+use borrow.Author.Tests.{eqb-true, eqb-false}
 use Rattle.wire.specs.Bits.{pushed, sentBit}
-use Rattle.wire.specs.declared.Phase.{Phase}
+use Rattle.wire.proofs.Tests.{by-test}
 use Rattle.companion.specs.Tick.{countedOf}
 use Rattle.device.specs.Answer.{pinShown}
 use Rattle.device.specs.Bus.{withPhase, withCompanion}
@@ -19,13 +21,14 @@ use Rattle.frame.specs.Layout.{transferOf}
 use Rattle.image.specs.Image.{imageOf, candidate}
 use Rattle.image.specs.Accepting.{isImage}
 use Rattle.image.proofs.Accepts.{image-well, image-written}
-use Rattle.desk.specs.Desk.{isTicking}
-use Rattle.rig.specs.Run.{allKnown}
-use Rattle.clocking.specs.Clocking.{Accepted}
-use Rattle.rig.specs.Led.{Led, Rowed, Along, Reached}
-use Rattle.rig.proofs.Ledger.{led-none, led-more, led-on, image-accepted, lies}
-use Rattle.rig.proofs.Inside.{withBits, bits-lie, bits-over, number-lies, on-while, no-transfer, high, turned}
-use Rattle.rig.proofs.Inside.{incoming-event, outgoing-event, idle-event, tick-event, high-answer, line-answer, still-answer}
+use Rattle.inplace.specs.Desk.{isTicking}
+use Rattle.clocking.specs.Outgoing.{sideOf, fetchedFrom}
+use Rattle.clocking.specs.Clocking.{Accepted, Left, clockOn}
+use Rattle.rig.specs.Led.{Led, Rowed, Reached, Clocked, Begun}
+use Rattle.rig.proofs.Ledger.{led-none, led-more, led-on, image-accepted, lies, rowed-one}
+use Rattle.rig.proofs.Inside.{withBits, bits-lie, bits-over, bits-transfer, number-lies, clocks-lie}
+use Rattle.rig.proofs.Inside.{on-while, no-transfer, high, turned, high-answer, line-answer, still-answer}
+use Rattle.rig.proofs.Inside.{incoming-event, outgoing-event, first-event, clock-event, idle-event, tick-event}
 
 -- the pin's bits of the answers of a state
 abbrev pub Pin : State → ℕ → Type 0
@@ -133,25 +136,94 @@ module _ (es i a : List ℕ) (from : ℕ) (w : isImage i ≡ true) where
   ticks-reached i′ a′ j l e m h =
       let d = l m h in record { image = image-accepted i′ (candidate i′) e (d .state); led = d }
 
--- a row, and then one event where the row was none
-module _ (es i m a : List ℕ) (from : ℕ) (i₁ a₁ : List ℕ) (to : ℕ) (c : Accepted i m) (d : Reached es i a from i₁ a₁ to) where
-  pub row-first : (to ≡ from → ⊥) → Rowed es i m a from i₁ m a₁ to
-  row-first n =
-      let w = d m (c .memory) in record { further = omega (arith, w .led .onward, n); image = w .image; led = w .led }
+-- a place where the events differ lies further on
+pub further : (P : ℕ → Type 0) (es : List ℕ) (i j : ℕ) → i ≤ j → P (getD es i 0) → (P (getD es j 0) → ⊥) → i < j
+further P es i j h e n =
+    by-test (eqb i j) (λ t. absurd (n (rw (← eqb-true i j t) e))) (λ t. let k = eqb-false i j t in omega arith)
 
-  pub row-still : (allKnown es ≡ true) × (from < length es) × (length es ≤ length a)
-      → Accepted i₁ m × ((allKnown es ≡ true) × (from < length es) × (length es ≤ length a₁))
-  row-still p =
-      let w = d m (c .memory) in
-      (record { image = w .image; memory = c .memory }, (p .0, p .1, omega (arith, w .led .room, p .2)))
+-- a row of one event at least
+module _ (es i m a : List ℕ) (from : ℕ) (c : Accepted i m) (n : from < length es) where
+  pub row-done : (i′ a′ : List ℕ) (to : ℕ) → Reached es i a from i′ a′ to → from < to → Rowed es i m a from i′ m a′ to
+  row-done i′ a′ to d f = let w = d m (c .memory) in record { further = f; image = w .image; led = w .led }
 
-  pub row-then : (i₂ m₂ a₂ : List ℕ) (to₂ : ℕ) → to ≡ from → Rowed es i₁ m a₁ from i₂ m₂ a₂ to₂
-      → Rowed es i m a from i₂ m₂ a₂ to₂
-  row-then i₂ m₂ a₂ to₂ q w =
+  -- the rest of a byte that has begun
+  pub row-sent : (i₁ a₁ : List ℕ) (next : ℕ) (i₂ a₂ : List ℕ) (to : ℕ) → getD es from 0 / 2 ≡ 1
+      → Begun es i m a from i₁ a₁ next → Clocked es i₁ a₁ next i₂ a₂ to → Rowed es i m a from i₂ m a₂ to
+  row-sent i₁ a₁ next i₂ a₂ to k b d =
+      let u = b .along .led in
+      let w = d .0 m (c .memory) in
+      let v = w .led in
       record {
-        further = w .further;
+        further =
+            by-test (eqb next from)
+            (λ t. let q = eqb-true next from t in
+            let f : next < to = d .1 (rw q n) (rw q k) in omega (arith, q, f))
+            (λ t. let q = eqb-false next from t in omega (arith, u .onward, v .onward));
         image = w .image;
         led =
-            led-on es (candidate i) m a from (candidate i₁) m a₁ from (candidate i₂) m₂ a₂ to₂
-            (rw q at (d m (c .memory) .led)) (w .led);
+            led-on es (candidate i) m a from (candidate i₁) m a₁ next (candidate i₂) m a₂ to u v;
       }
+
+  module _ (r : length es ≤ length a) (k : getD es from 0 / 2 ≡ 1) where
+    -- any Clock in a transfer
+    pub row-clock : 0 < getD i 26 0 → (i′ m′ : List ℕ) (line : Bool) (v x : ℕ)
+        → Left (clockOn i m (eqb (getD es from 0) 3)) line i′ m′ → Pin (clockOn i m (eqb (getD es from 0) 3) .state) v
+        → x ≡ v + cond line 1 0 → Rowed es i m a from i′ m′ (set a from x) (from + 1)
+    row-clock g i′ m′ line v x l p y =
+        let s = candidate i in
+        let on : 0 < transferOf (s .phase) .phase = rw (number es i a from (c .image)) at g in
+        let q = clock-event s m (getD es from 0) k (on-while s (image-well i (c .image)) on) in
+        rowed-one es i m a from i′ m′ x c n r
+        (rw q (record { answer = y ∙ (λ t. p t + cond (l .line t) 1 0); image = l .image; memory = l .memory }))
+
+    -- the first bit of a byte that goes out
+    pub row-begun : 6 < getD i 26 0 → getD i 27 0 ≡ 0 → (i′ : List ℕ) (b v x : ℕ)
+        → b ≡ fetchedFrom (sideOf (getD i 26 0)) (candidate i) m → Pin (candidate i) v
+        → x ≡ v + cond (high (getD es from 0) && sentBit 0 b) 1 0 → i′ ≡ set (set i 27 1) 28 b
+        → Begun es i m a from i′ (set a from x) (from + 1)
+    row-begun g z i′ b v x f p y e =
+        let s = candidate i in
+        let q = s .phase in
+        let w = sym (image-written i (c .image)) in
+        let g′ : 6 < transferOf q .phase = rw (number es i a from (c .image)) at g in
+        let on : 0 < transferOf q .phase = omega arith in
+        let b′ : b ≡ fetchedFrom (sideOf (transferOf q .phase)) s m = rw (number es i a from (c .image)) at f in
+        let u = withPhase s (withBits q 1 b) in
+        let own : s .phase ≡ withBits q 0 (getD i 28 0) = rw z at (ap (λ (t : State). t .phase) (bits-lie i s w)) in
+        let d = led-more es s m a from s m a from (idle-begun es i a from (c .image) (omega arith) m (c .memory)) n r
+        (turned s (withBits q 1 b) m (high (getD es from 0) && sentBit 0 b))
+        (first-event s m (getD es from 0) k (on-while s (image-well i (c .image)) on) q (getD i 28 0) g′ own b b′) x
+        (line-answer s (withBits q 1 b) m v x (high (getD es from 0) && sentBit 0 b) p y) in
+        let l : i′ ≡ imageOf u = e ∙ bits-over i s w 1 b on in
+        let t = bits-transfer q 1 b on in
+        record {
+          along = record { image = image-accepted i′ u l (d .state); led = rw (lies i′ u l) d };
+          sends = rw (number-lies i′ u l, t) g′;
+          some = rw (clocks-lie i′ u l, t) (omega arith);
+          few = rw (clocks-lie i′ u l, t) (omega arith);
+        }
+
+-- a byte that had begun
+pub begun-still : (es i m a : List ℕ) (from : ℕ) → Accepted i m → from ≤ length es → 6 < getD i 26 0
+    → (getD i 27 0 ≡ 0 → ⊥) → getD i 27 0 < 7 → Begun es i m a from i a from
+begun-still es i m a from c n g z f =
+    record {
+      along = none-reached es i a from (c .image) n m (c .memory);
+      sends = g;
+      some = omega (arith, z);
+      few = f;
+    }
+
+-- a tick that moves the core, by the test of it
+both : (t v : Bool) → cond t v false ≡ true → (t ≡ true) × (v ≡ true)
+both true v h = (refl, h)
+both false v h = absurd (false≢true h)
+
+pub moves-facts : (s : State) (e : ℕ) → cond (eqb e 4) (isTicking s) false ≡ true → (e ≡ 4) × (isTicking s ≡ true)
+moves-facts s e h = let f = both (eqb e 4) (isTicking s) h in (eqb-true e 4 (f .0), f .1)
+
+-- what the pin shows, and that it fits beside a line
+pub shown-both : {i : List ℕ} {r : ℕ}
+    → ((s : State) → i ≡ imageOf s → r ≡ 2 * pinShown (s .power) (s .companion)) × (r ≤ 14) → (s : State) → i ≡ imageOf s
+    → (r ≡ 2 * pinShown (s .power) (s .companion)) × (r ≤ 14)
+shown-both p s e = (p .0 s e, p .1)

@@ -2,17 +2,20 @@
 // Events that are done together: Clocks inside a byte, Clocks that nobody hears, ticks of a core that was tested once. Each
 // function returns the place after the last event that it did.
 ghost use mathlib.Core.Path.{_≡_};
-ghost use mathlib.Core.Bool.{true};
-ghost use Prim.Native.Nat.{_+_, _<_, _≤_};
+ghost use mathlib.Core.Bool.{true, false, cond};
+ghost use Prim.Native.Nat.{_+_, _/_, _<_, _≤_};
+ghost use lib.Dec.{eqb};
 ghost use lib.ListN.{length, getD, set};
 ghost use Rattle.image.specs.Image.{imageSize, candidate};
 ghost use Rattle.image.specs.Accepting.{isImage};
 ghost use Rattle.rig.specs.Run.{allKnown};
 ghost use Rattle.clocking.specs.Clocking.{Accepted};
-ghost use Rattle.desk.specs.Desk.{isTicking};
-ghost use Rattle.rig.specs.Led.{Rowed, Reached};
-use desk::tick::counted;
-use desk::tick::is_ticking;
+ghost use Rattle.inplace.specs.Desk.{isTicking};
+ghost use Rattle.rig.specs.Led.{Rowed, Clocked, Ticked, Begun};
+use clocking::send::clock;
+use clocking::send::fetched;
+use inplace::tick::counted;
+use inplace::tick::is_ticking;
 use resident::event::happen;
 use resident::event::lined;
 use resident::event::shown;
@@ -22,7 +25,7 @@ use wire::bits::sending_line;
 // Where a row of at most so many events ends: one bound for its loop.
 fn row_end(from: usize, most: u8, length: usize) -> usize
     requires { ⌜ from ≤ length ⌝ }
-    ensures { λ r. ⌜ (from ≤ r) × (r ≤ length) × (r ≤ from + most) ⌝ }
+    ensures { λ r. ⌜ (from ≤ r) × (r ≤ length) × (r ≤ from + most) × (from < length → 0 < most → from < r) ⌝ }
 {
     let long = most as usize;
     if length - from < long {
@@ -45,7 +48,7 @@ fn receive_row(image: &mut [u8], events: &[u8], answers: &mut [u8], from: usize)
     requires { ⌜ isImage (now image) ≡ true ⌝ }
     requires { ⌜ (0 < getD (now image) 26 0) × (getD (now image) 26 0 < 7) × (getD (now image) 27 0 < 7) ⌝ }
     requires { ⌜ (from ≤ length (now events)) × (length (now events) ≤ length (now answers)) ⌝ }
-    ensures { λ r. ⌜ Reached (now (events .entry)) (now (image .entry)) (now (answers .entry)) from
+    ensures { λ r. ⌜ Clocked (now (events .entry)) (now (image .entry)) (now (answers .entry)) from
         (now (image .exit)) (now (answers .exit)) r ⌝ }
 {
     let pin = shown(image);
@@ -73,7 +76,7 @@ fn send_row(image: &mut [u8], events: &[u8], answers: &mut [u8], from: usize) ->
     requires { ⌜ isImage (now image) ≡ true ⌝ }
     requires { ⌜ (6 < getD (now image) 26 0) × (0 < getD (now image) 27 0) × (getD (now image) 27 0 < 7) ⌝ }
     requires { ⌜ (from ≤ length (now events)) × (length (now events) ≤ length (now answers)) ⌝ }
-    ensures { λ r. ⌜ Reached (now (events .entry)) (now (image .entry)) (now (answers .entry)) from
+    ensures { λ r. ⌜ Clocked (now (events .entry)) (now (image .entry)) (now (answers .entry)) from
         (now (image .exit)) (now (answers .exit)) r ⌝ }
 {
     let pin = shown(image);
@@ -100,7 +103,7 @@ fn send_row(image: &mut [u8], events: &[u8], answers: &mut [u8], from: usize) ->
 fn idle_row(image: &[u8], events: &[u8], answers: &mut [u8], from: usize) -> usize
     requires { ⌜ (isImage (now image) ≡ true) × (getD (now image) 26 0 ≡ 0) ⌝ }
     requires { ⌜ (from ≤ length (now events)) × (length (now events) ≤ length (now answers)) ⌝ }
-    ensures { λ r. ⌜ Reached (now (events .entry)) (now (image .entry)) (now (answers .entry)) from
+    ensures { λ r. ⌜ Clocked (now (events .entry)) (now (image .entry)) (now (answers .entry)) from
         (now (image .entry)) (now (answers .exit)) r ⌝ }
 {
     let pin = shown(image);
@@ -120,7 +123,7 @@ fn idle_row(image: &[u8], events: &[u8], answers: &mut [u8], from: usize) -> usi
 fn tick_row(image: &mut [u8], events: &[u8], answers: &mut [u8], from: usize) -> usize
     requires { ⌜ (isImage (now image) ≡ true) × (isTicking (candidate (now image)) ≡ true) ⌝ }
     requires { ⌜ (from ≤ length (now events)) × (length (now events) ≤ length (now answers)) ⌝ }
-    ensures { λ r. ⌜ Reached (now (events .entry)) (now (image .entry)) (now (answers .entry)) from
+    ensures { λ r. ⌜ Ticked (now (events .entry)) (now (image .entry)) (now (answers .entry)) from
         (now (image .exit)) (now (answers .exit)) r ⌝ }
 {
     let mut i = from;
@@ -136,12 +139,70 @@ fn tick_row(image: &mut [u8], events: &[u8], answers: &mut [u8], from: usize) ->
     i
 }
 
-// Clocks from here on, if they make a row.
-fn clocks(image: &mut [u8], events: &[u8], answers: &mut [u8], from: usize) -> usize
-    requires { ⌜ isImage (now image) ≡ true ⌝ }
-    requires { ⌜ (from ≤ length (now events)) × (length (now events) ≤ length (now answers)) ⌝ }
-    ensures { λ r. ⌜ Reached (now (events .entry)) (now (image .entry)) (now (answers .entry)) from
+// The first bit of a byte that goes out, where it was not sent yet.
+fn first_sent(
+    image: &mut [u8],
+    memory: &[u8],
+    events: &[u8],
+    answers: &mut [u8],
+    from: usize,
+) -> usize
+    requires { ⌜ Accepted (now image) (now memory) ⌝ }
+    requires { ⌜ (6 < getD (now image) 26 0) × (getD (now image) 27 0 < 7) ⌝ }
+    requires { ⌜ (from < length (now events)) × (length (now events) ≤ length (now answers))
+        × (getD (now events) from 0 / 2 ≡ 1) ⌝ }
+    ensures { λ r. ⌜ Begun (now (events .entry)) (now (image .entry)) (now (memory .entry)) (now (answers .entry)) from
         (now (image .exit)) (now (answers .exit)) r ⌝ }
+{
+    let done = image[27];
+    if done != 0 {
+        return from;
+    }
+    let number = image[26];
+    let byte = fetched(image, memory, number);
+    let pin = shown(image);
+    let event = events[from];
+    let line = sending_line(byte, 0, event % 2 == 1);
+    answers[from] = lined(pin, line);
+    settle(image, 1, byte);
+    from + 1
+}
+
+// The eighth or the ninth Clock of a byte.
+fn one_clock(
+    image: &mut [u8],
+    memory: &mut [u8],
+    events: &[u8],
+    answers: &mut [u8],
+    from: usize,
+) -> usize
+    requires { ⌜ Accepted (now image) (now memory) ⌝ }
+    requires { ⌜ 0 < getD (now image) 26 0 ⌝ }
+    requires { ⌜ (from < length (now events)) × (length (now events) ≤ length (now answers))
+        × (getD (now events) from 0 / 2 ≡ 1) ⌝ }
+    ensures { λ r. ⌜ Rowed (now (events .entry)) (now (image .entry)) (now (memory .entry)) (now (answers .entry)) from
+        (now (image .exit)) (now (memory .exit)) (now (answers .exit)) r ⌝ }
+{
+    let event = events[from];
+    let line = clock(image, memory, event == 3);
+    let pin = shown(image);
+    answers[from] = lined(pin, line);
+    from + 1
+}
+
+// One Clock, or a row of them.
+fn clocks(
+    image: &mut [u8],
+    memory: &mut [u8],
+    events: &[u8],
+    answers: &mut [u8],
+    from: usize,
+) -> usize
+    requires { ⌜ Accepted (now image) (now memory) ⌝ }
+    requires { ⌜ (from < length (now events)) × (length (now events) ≤ length (now answers))
+        × (getD (now events) from 0 / 2 ≡ 1) ⌝ }
+    ensures { λ r. ⌜ Rowed (now (events .entry)) (now (image .entry)) (now (memory .entry)) (now (answers .entry)) from
+        (now (image .exit)) (now (memory .exit)) (now (answers .exit)) r ⌝ }
 {
     let number = image[26];
     if number == 0 {
@@ -149,45 +210,24 @@ fn clocks(image: &mut [u8], events: &[u8], answers: &mut [u8], from: usize) -> u
     }
     let done = image[27];
     if done > 6 {
-        return from;
+        return one_clock(image, memory, events, answers, from);
     }
     if number < 7 {
         return receive_row(image, events, answers, from);
     }
-    if done == 0 {
-        return from;
-    }
-    send_row(image, events, answers, from)
+    let next = first_sent(image, memory, events, answers, from);
+    send_row(image, events, answers, next)
 }
 
-// Ticks from here on, if they move the core.
-fn ticks(image: &mut [u8], events: &[u8], answers: &mut [u8], from: usize) -> usize
+// Whether an event is a tick that moves the core.
+fn moves(image: &[u8], event: u8) -> bool
     requires { ⌜ isImage (now image) ≡ true ⌝ }
-    requires { ⌜ (from ≤ length (now events)) × (length (now events) ≤ length (now answers)) ⌝ }
-    ensures { λ r. ⌜ Reached (now (events .entry)) (now (image .entry)) (now (answers .entry)) from
-        (now (image .exit)) (now (answers .exit)) r ⌝ }
+    ensures { λ r. ⌜ r ≡ cond (eqb event 4) (isTicking (candidate (now (image .entry)))) false ⌝ }
 {
-    if is_ticking(image) {
-        return tick_row(image, events, answers, from);
-    }
-    from
-}
-
-// The events from here on that make a row.
-fn alike(image: &mut [u8], events: &[u8], answers: &mut [u8], from: usize) -> usize
-    requires { ⌜ isImage (now image) ≡ true ⌝ }
-    requires { ⌜ (from < length (now events)) × (length (now events) ≤ length (now answers)) ⌝ }
-    ensures { λ r. ⌜ Reached (now (events .entry)) (now (image .entry)) (now (answers .entry)) from
-        (now (image .exit)) (now (answers .exit)) r ⌝ }
-{
-    let event = events[from];
-    if event / 2 == 1 {
-        return clocks(image, events, answers, from);
-    }
     if event == 4 {
-        return ticks(image, events, answers, from);
+        return is_ticking(image);
     }
-    from
+    false
 }
 
 // One event.
@@ -199,7 +239,8 @@ fn single(
     from: usize,
 ) -> usize
     requires { ⌜ Accepted (now image) (now memory) ⌝ }
-    requires { ⌜ (allKnown (now events) ≡ true) × (from < length (now events)) × (length (now events) ≤ length (now answers)) ⌝ }
+    requires { ⌜ (allKnown (now events) ≡ true) × (from < length (now events))
+        × (length (now events) ≤ length (now answers)) ⌝ }
     ensures { λ r. ⌜ Rowed (now (events .entry)) (now (image .entry)) (now (memory .entry)) (now (answers .entry)) from
         (now (image .exit)) (now (memory .exit)) (now (answers .exit)) r ⌝ }
 {
@@ -218,13 +259,17 @@ pub(crate) fn row(
     from: usize,
 ) -> usize
     requires { ⌜ Accepted (now image) (now memory) ⌝ }
-    requires { ⌜ (allKnown (now events) ≡ true) × (from < length (now events)) × (length (now events) ≤ length (now answers)) ⌝ }
+    requires { ⌜ (allKnown (now events) ≡ true) × (from < length (now events))
+        × (length (now events) ≤ length (now answers)) ⌝ }
     ensures { λ r. ⌜ Rowed (now (events .entry)) (now (image .entry)) (now (memory .entry)) (now (answers .entry)) from
         (now (image .exit)) (now (memory .exit)) (now (answers .exit)) r ⌝ }
 {
-    let to = alike(image, events, answers, from);
-    if to != from {
-        return to;
+    let event = events[from];
+    if event / 2 == 1 {
+        return clocks(image, memory, events, answers, from);
+    }
+    if moves(image, event) {
+        return tick_row(image, events, answers, from);
     }
     single(image, memory, events, answers, from)
 }

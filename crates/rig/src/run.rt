@@ -40,8 +40,8 @@ pub fn all_known(events: &[u8]) -> bool
 pub fn run_events(image: &mut [u8], memory: &mut [u8], events: &[u8], answers: &mut [u8])
     requires { ⌜ Accepted (now image) (now memory) ⌝ }
     requires { ⌜ (allKnown (now events) ≡ true) × (length (now events) ≤ length (now answers)) ⌝ }
-    ensures { λ _. ⌜ RanThrough (candidate (now (image .entry))) (now (memory .entry)) (now (events .entry)) (now (answers .entry))
-        (now (image .exit)) (now (memory .exit)) (now (answers .exit)) ⌝ }
+    ensures { λ _. ⌜ RanThrough (candidate (now (image .entry))) (now (memory .entry)) (now (events .entry))
+        (now (answers .entry)) (now (image .exit)) (now (memory .exit)) (now (answers .exit)) ⌝ }
 {
     let mut i = 0;
     while i < events.len() {

@@ -1,24 +1,20 @@
 -- SPDX-License-Identifier: Apache-2.0
--- The phase's number and the clocks done choose the row.
+-- The phase's number and the clocks done choose the way.
 -- Assumes nothing.
-use Prim.Native.Nat.{_+_, _-_, _<_, _≤_}
-use mathlib.Core.Path.{_≡_, refl, sym, ap, _∙_}
 use native.Mathlib.Omega.{arith}
-use denote.Ref.{now}
-use lib.ListN.{length, getD}
 use borrow.Author.Needs.{needs}
-use Rattle.image.proofs.Accepts.{image-long, image-written}
-use Rattle.rig.proofs.Rowing.{none-reached}
+use Rattle.image.proofs.Accepts.{image-long}
+use Rattle.rig.proofs.Rowing.{row-done, row-sent}
 use Rattle.rig.proofs.rows.clocks.Statement.{statement}
 use Rattle.rig.proofs.rows.clocks.Tie as tie
 
 slice-read-number : tie.Need-slice-read-number
-slice-read-number c = omega (arith, image-long _ (c .before .before .before .before .pre .0))
+slice-read-number c = omega (arith, image-long _ (c .before .before .before .before .before .pre .0 .image))
 
 idle-row-requires : tie.Need-idle-row-requires
 idle-row-requires c κs =
-    let s = c .before .before .before .before .before .before .before in
-    ((s .pre .0, c .before .before .if1 .taken), s .pre .1)
+    let s = c .before .before .before .before .before .before .before .before in
+    ((s .pre .0 .image, c .before .before .if1 .taken), (omega (arith, s .pre .1 .0), s .pre .1 .1))
 
 same-length : tie.Need-same-length
 same-length c = search needs
@@ -27,19 +23,19 @@ same-length-2 : tie.Need-same-length-2
 same-length-2 c = search needs
 
 returns : tie.Need-returns
-returns c = c .before .before .idle-row .ensures
+returns c =
+    let s = c .before .before .before .before .before .before .before .before .before .before .before in
+    let e = c .before .before .idle-row .ensures in
+    row-done _ _ _ _ _ (s .pre .0) (s .pre .1 .0) _ _ _ (e .0) (e .1 (s .pre .1 .0) (s .pre .1 .2))
 
 slice-read-done : tie.Need-slice-read-done
-slice-read-done c = omega (arith, image-long _ (c .before .before .before .before .before .before .pre .0))
+slice-read-done c =
+    omega (arith, image-long _ (c .before .before .before .before .before .before .before .pre .0 .image))
 
-returns-2 : tie.Need-returns-2
-returns-2 c =
-    none-reached _ _ _ _ (c .before .before .before .before .before .before .before .pre .0) (c .before .before .before .before .before .before .before .pre .1 .0)
-
-receive-row-requires : tie.Need-receive-row-requires
-receive-row-requires c κs =
-    let s = c .before .before .before .before .before .before .before .before .before .before in
-    (s .pre .0, ((omega (arith, c .before .before .before .before .before .if1 .left), c .before .before .if3 .taken, omega (arith, c .before .before .before .if2 .left)), s .pre .1))
+one-clock-requires : tie.Need-one-clock-requires
+one-clock-requires c κs =
+    let s = c .before .before .before .before .before .before .before .before .before .before .before in
+    (s .pre .0, (omega (arith, c .before .before .before .before .before .if1 .left), s .pre .1))
 
 same-length-3 : tie.Need-same-length-3
 same-length-3 c = search needs
@@ -47,26 +43,63 @@ same-length-3 c = search needs
 same-length-4 : tie.Need-same-length-4
 same-length-4 c = search needs
 
-returns-3 : tie.Need-returns-3
-returns-3 c = c .before .before .before .before .receive-row .ensures
-
-returns-4 : tie.Need-returns-4
-returns-4 c =
-    none-reached _ _ _ _ (c .before .before .before .before .before .before .before .before .before .pre .0) (c .before .before .before .before .before .before .before .before .before .pre .1 .0)
-
-send-row-requires : tie.Need-send-row-requires
-send-row-requires c κs =
-    let s = c .before .before .before .before .before .before .before .before .before .before .before in
-    (s .pre .0, ((omega (arith, c .before .before .before .if3 .left), omega (arith, c .before .before .if4 .left), omega (arith, c .before .before .before .before .if2 .left)), s .pre .1))
-
 same-length-5 : tie.Need-same-length-5
 same-length-5 c = search needs
+
+returns-2 : tie.Need-returns-2
+returns-2 c = c .before .before .before .before .before .before .one-clock .ensures
+
+receive-row-requires : tie.Need-receive-row-requires
+receive-row-requires c κs =
+    let s = c .before .before .before .before .before .before .before .before .before .before .before in (
+      s .pre .0 .image,
+      (
+        (omega (arith, c .before .before .before .before .before .if1 .left), c .before .before .if3 .taken, omega (arith, c .before .before .before .if2 .left)),
+        (omega (arith, s .pre .1 .0), s .pre .1 .1),
+      ),
+    )
 
 same-length-6 : tie.Need-same-length-6
 same-length-6 c = search needs
 
-returns-5 : tie.Need-returns-5
-returns-5 c = c .before .before .before .before .send-row .ensures
+same-length-7 : tie.Need-same-length-7
+same-length-7 c = search needs
+
+returns-3 : tie.Need-returns-3
+returns-3 c =
+    let s = c .before .before .before .before .before .before .before .before .before .before .before .before .before .before .before .before in
+    let e = c .before .before .before .before .receive-row .ensures in
+    row-done _ _ _ _ _ (s .pre .0) (s .pre .1 .0) _ _ _ (e .0) (e .1 (s .pre .1 .0) (s .pre .1 .2))
+
+first-sent-requires : tie.Need-first-sent-requires
+first-sent-requires c κs =
+    let s = c .before .before .before .before .before .before .before .before .before .before .before .before in
+    (s .pre .0, ((omega (arith, c .before .before .before .if3 .left), omega (arith, c .before .before .before .before .if2 .left)), s .pre .1))
+
+send-row-requires : tie.Need-send-row-requires
+send-row-requires c κs =
+    let s = c .before .before .before .before .before .before .before .before .before .before .before .before .before .before .before .before .before .before .before in
+    let b = c .before .before .before .before .before .before .first-sent .ensures in (
+      b .along .image,
+      (
+        (b .sends, b .some, b .few),
+        (b .along .led .inside, omega (arith, b .along .led .room, s .pre .1 .1)),
+      ),
+    )
+
+same-length-8 : tie.Need-same-length-8
+same-length-8 c = search needs
+
+same-length-9 : tie.Need-same-length-9
+same-length-9 c = search needs
+
+same-length-10 : tie.Need-same-length-10
+same-length-10 c = search needs
+
+returns-4 : tie.Need-returns-4
+returns-4 c =
+    let s = c .before .before .before .before .before .before .before .before .before .before .before .before .before .before .before .before .before .before .before .before .before .before .before .before in
+    row-sent _ _ _ _ _ (s .pre .0) (s .pre .1 .0) _ _ _ _ _ _ (s .pre .1 .2) (c .before .before .before .before .before .before .before .before .before .before .before .first-sent .ensures) (c .before .before .before .before .send-row .ensures)
 
 pub clocks-spec : {M : Type 1} → statement M
 clocks-spec =
@@ -78,13 +111,18 @@ clocks-spec =
     same-length-2
     returns
     slice-read-done
-    returns-2
-    receive-row-requires
+    one-clock-requires
     same-length-3
     same-length-4
-    returns-3
-    returns-4
-    send-row-requires
     same-length-5
+    returns-2
+    receive-row-requires
     same-length-6
-    returns-5)
+    same-length-7
+    returns-3
+    first-sent-requires
+    send-row-requires
+    same-length-8
+    same-length-9
+    same-length-10
+    returns-4)

@@ -2,20 +2,20 @@
 -- The loop's invariant: the Clocks so far lead from the first place to this one, in the same state. The measure is what is
 -- left of the events.
 -- Assumes nothing.
-use Prim.Native.Nat.{_+_, _-_, _<_, _≤_}
-use mathlib.Core.Path.{_≡_, refl, sym, ap, _∙_}
+use Prim.Native.Nat.{ℕ, _-_, _/_, _≤_}
+use mathlib.Core.Path.{_≡_, refl, sym}
 use native.Mathlib.Omega.{arith}
 use denote.Ref.{now}
-use lib.ListN.{length, getD}
+use lib.ListN.{length}
 use borrow.Author.Needs.{needs}
 use Rattle.image.proofs.Accepts.{image-long, image-written}
-use Rattle.rig.proofs.Rowing.{IdleLed, idle-begun, idle-more, idle-reached}
+use Rattle.rig.proofs.Rowing.{IdleLed, idle-begun, idle-more, idle-reached, further, shown-both}
 use Rattle.rig.proofs.rows.idle_row.Statement.{statement}
 use Rattle.rig.proofs.rows.idle_row.Tie as tie
 
 abbrev Inv-loop : tie.InvT-loop
 Inv-loop image events answers₀ from pin i₀ answers i =
-    (i ≤ length events) × (length answers ≡ length answers₀) × IdleLed events image answers₀ from answers i
+    (i ≤ length events) × (from ≤ i) × (length answers ≡ length answers₀) × IdleLed events image answers₀ from answers i
 
 abbrev μ-loop : tie.MeasureT-loop
 μ-loop image events answers₀ from pin i₀ answers i = length events - i
@@ -26,26 +26,30 @@ shown-requires c κs = image-long _ (c .before .before .before .pre .0 .0)
 loop-holds : tie.Need-loop-holds Inv-loop μ-loop
 loop-holds c =
     let s = c .before .before .before .before in
-    (s .pre .1 .0, refl, idle-begun _ _ _ _ (s .pre .0 .0) (s .pre .1 .0))
+    (s .pre .1 .0, omega arith, refl, idle-begun _ _ _ _ (s .pre .0 .0) (s .pre .1 .0))
 
 shared-slice-read-event : tie.Need-shared-slice-read-event Inv-loop μ-loop
 shared-slice-read-event c = c .before .loop-test .taken
 
 same-length : tie.Need-same-length Inv-loop μ-loop
-same-length c = c .before .before .before .loop .inv .1
+same-length c = c .before .before .before .loop .inv .2
 
 returns : tie.Need-returns Inv-loop μ-loop
 returns c =
-    idle-reached _ _ _ _ (c .before .before .before .before .before .before .before .before .pre .0 .0) _ _ (c .before .before .before .loop .inv .2)
+    let l = c .before .before .before .loop in
+    let s = c .before .before .before .before .before .before .before .before in (
+      idle-reached _ _ _ _ (s .pre .0 .0) _ _ (l .inv .3),
+      λ n k. further (λ (x : ℕ). x / 2 ≡ 1) (now (s .args .events)) (s .args .from) (l .i) (l .inv .1) k (c .if1 .taken),
+    )
 
 add-answers : tie.Need-add-answers Inv-loop μ-loop
 add-answers c =
-    let p = c .before .before .before .before .shown .ensures _ (sym (image-written _ (c .before .before .before .before .before .before .before .before .pre .0 .0))) in
+    let p = shown-both (c .before .before .before .before .shown .ensures) _ (sym (image-written _ (c .before .before .before .before .before .before .before .before .pre .0 .0))) in
     omega (arith, p .1)
 
 slice-write-answers : tie.Need-slice-write-answers Inv-loop μ-loop
 slice-write-answers c =
-    omega (arith, c .before .before .before .loop .inv .1, c .before .before .loop-test .taken, c .before .before .before .before .before .before .before .before .pre .1 .1)
+    omega (arith, c .before .before .before .loop .inv .2, c .before .before .loop-test .taken, c .before .before .before .before .before .before .before .before .pre .1 .1)
 
 add-i : tie.Need-add-i Inv-loop μ-loop
 add-i c = search needs
@@ -58,18 +62,20 @@ loop-again c =
     let l = c .before .before .before .loop in
     let s = c .before .before .before .before .before .before .before .before in
     let t = c .before .before .loop-test .taken in
-    let p = c .before .before .before .before .shown .ensures _ (sym (image-written _ (s .pre .0 .0))) in (
+    let p = shown-both (c .before .before .before .before .shown .ensures) _ (sym (image-written _ (s .pre .0 .0))) in (
       omega (arith, t),
+      omega (arith, l .inv .1),
       search needs,
-      idle-more _ _ _ _ (s .pre .0 .0) _ _ t (s .pre .1 .1) _ (p .0) (l .inv .2) (s .pre .0 .1) (c .if1 .left),
+      idle-more _ _ _ _ (s .pre .0 .0) _ _ t (s .pre .1 .1) _ (p .0) (l .inv .3) (s .pre .0 .1) (c .if1 .left),
     )
 
 same-length-2 : tie.Need-same-length-2 Inv-loop μ-loop
-same-length-2 c = c .before .loop .inv .1
+same-length-2 c = c .before .loop .inv .2
 
 returns-2 : tie.Need-returns-2 Inv-loop μ-loop
 returns-2 c =
-    idle-reached _ _ _ _ (c .before .before .before .before .before .before .pre .0 .0) _ _ (c .before .loop .inv .2)
+    let l = c .before .loop in
+    (idle-reached _ _ _ _ (c .before .before .before .before .before .before .pre .0 .0) _ _ (l .inv .3), λ n k. omega (arith, n, c .loop-test .left))
 
 pub idle-row-spec : {M : Type 1} → statement M
 idle-row-spec =

@@ -2,7 +2,6 @@
 -- Two bytes of an image.
 -- Assumes nothing.
 use mathlib.Core.Path.{refl}
-use native.Mathlib.Omega.{arith}
 use borrow.Author.Needs.{needs}
 use Rattle.rig.proofs.rows.settle.Statement.{statement}
 use Rattle.rig.proofs.rows.settle.Tie as tie

@@ -2,7 +2,6 @@
 -- One event: its answer goes to its place.
 -- Assumes nothing.
 use denote.Ref.{now}
-use lib.ListN.{length}
 use borrow.Author.Needs.{needs}
 use Rattle.rig.proofs.Runs.{known-at}
 use Rattle.rig.proofs.Ledger.{rowed-one}

@@ -2,26 +2,26 @@
 -- The loop's invariant: the core still moves, and the ticks so far lead from the first place to this one. The measure is what
 -- is left of the events.
 -- Assumes nothing.
-use Prim.Native.Nat.{_+_, _-_, _<_, _≤_}
+use Prim.Native.Nat.{ℕ, _-_, _≤_}
 use mathlib.Core.Path.{_≡_, refl, sym, ap, _∙_}
 use native.Mathlib.Omega.{arith}
 use denote.Ref.{now}
-use lib.ListN.{length, getD}
+use lib.ListN.{length}
 use borrow.Author.Needs.{needs}
 use Rattle.image.proofs.Accepts.{image-long, image-written}
 use mathlib.Core.Bool.{true}
 use Rattle.image.specs.Image.{imageOf, candidate}
 use Rattle.image.proofs.Images.{image-length}
-use Rattle.desk.specs.Desk.{isTicking}
+use Rattle.inplace.specs.Desk.{isTicking}
 use Rattle.rig.proofs.Ledger.{lies}
 use Rattle.rig.proofs.Inside.{ticking-facts, ticking-kept}
-use Rattle.rig.proofs.Rowing.{TicksLed, idle-begun, tick-more, ticks-reached}
+use Rattle.rig.proofs.Rowing.{TicksLed, idle-begun, tick-more, ticks-reached, further, shown-both}
 use Rattle.rig.proofs.rows.tick_row.Statement.{statement}
 use Rattle.rig.proofs.rows.tick_row.Tie as tie
 
 abbrev Inv-loop : tie.InvT-loop
 Inv-loop image₀ events answers₀ from i₀ image answers i =
-    (i ≤ length events) × (image ≡ imageOf (candidate image)) × (isTicking (candidate image) ≡ true)
+    (i ≤ length events) × (from ≤ i) × (image ≡ imageOf (candidate image)) × (isTicking (candidate image) ≡ true)
     × (length answers ≡ length answers₀) × TicksLed events image₀ answers₀ from image answers i
 
 abbrev μ-loop : tie.MeasureT-loop
@@ -31,6 +31,7 @@ loop-holds : tie.Need-loop-holds Inv-loop μ-loop
 loop-holds c =
     let s = c .before .before .before in (
       s .pre .1 .0,
+      omega arith,
       sym (image-written _ (s .pre .0 .0)),
       s .pre .0 .1,
       refl,
@@ -42,34 +43,38 @@ shared-slice-read-if1 c = c .before .loop-test .taken
 
 same-length : tie.Need-same-length Inv-loop μ-loop
 same-length c =
-    ap length (c .before .before .before .loop .inv .1) ∙ image-length _ ∙ sym (image-long _ (c .before .before .before .before .before .before .before .pre .0 .0))
+    ap length (c .before .before .before .loop .inv .2) ∙ image-length _ ∙ sym (image-long _ (c .before .before .before .before .before .before .before .pre .0 .0))
 
 same-length-2 : tie.Need-same-length-2 Inv-loop μ-loop
-same-length-2 c = c .before .before .before .loop .inv .3
+same-length-2 c = c .before .before .before .loop .inv .4
 
 returns : tie.Need-returns Inv-loop μ-loop
 returns c =
-    ticks-reached _ _ _ _ (c .before .before .before .before .before .before .before .pre .0 .0) _ _ _ (c .before .before .before .loop .inv .4) (c .before .before .before .loop .inv .1)
+    let l = c .before .before .before .loop in
+    let s = c .before .before .before .before .before .before .before in (
+      ticks-reached _ _ _ _ (s .pre .0 .0) _ _ _ (l .inv .5) (l .inv .2),
+      λ n k. further (λ (x : ℕ). x ≡ 4) (now (s .args .events)) (s .args .from) (l .i) (l .inv .1) k (c .if1 .taken),
+    )
 
 counted-requires : tie.Need-counted-requires Inv-loop μ-loop
-counted-requires c κs = ap length (c .before .before .before .before .loop .inv .1) ∙ image-length _
+counted-requires c κs = ap length (c .before .before .before .before .loop .inv .2) ∙ image-length _
 
 shown-requires : tie.Need-shown-requires Inv-loop μ-loop
 shown-requires c κs =
     let l = c .before .before .before .before .before .before .before .before .loop in
-    let v = c .before .before .before .counted .ensures _ (l .inv .1) (ticking-facts _ (l .inv .2) .valid) in
+    let v = c .before .before .before .counted .ensures _ (l .inv .2) (ticking-facts _ (l .inv .3) .valid) in
     ap length (v .1) ∙ image-length _
 
 add-answers : tie.Need-add-answers Inv-loop μ-loop
 add-answers c =
     let l = c .before .before .before .before .before .before .before .before .before .loop in
-    let v = c .before .before .before .before .counted .ensures _ (l .inv .1) (ticking-facts _ (l .inv .2) .valid) in
-    let p = c .shown .ensures _ (v .1) in
+    let v = c .before .before .before .before .counted .ensures _ (l .inv .2) (ticking-facts _ (l .inv .3) .valid) in
+    let p = shown-both (c .shown .ensures) _ (v .1) in
     omega (arith, p .1)
 
 slice-write-answers : tie.Need-slice-write-answers Inv-loop μ-loop
 slice-write-answers c =
-    omega (arith, c .before .before .before .before .before .before .before .before .before .loop .inv .3, c .before .before .before .before .before .before .before .before .loop-test .taken, c .before .before .before .before .before .before .before .before .before .before .before .before .before .pre .1 .1)
+    omega (arith, c .before .before .before .before .before .before .before .before .before .loop .inv .4, c .before .before .before .before .before .before .before .before .loop-test .taken, c .before .before .before .before .before .before .before .before .before .before .before .before .before .pre .1 .1)
 
 add-i : tie.Need-add-i Inv-loop μ-loop
 add-i c = omega (arith, c .before .before .before .before .before .before .before .before .loop-test .taken)
@@ -82,25 +87,29 @@ loop-again c =
     let l = c .before .before .before .before .before .before .before .before .before .loop in
     let s = c .before .before .before .before .before .before .before .before .before .before .before .before .before in
     let t = c .before .before .before .before .before .before .before .before .loop-test .taken in
-    let v = c .before .before .before .before .counted .ensures _ (l .inv .1) (ticking-facts _ (l .inv .2) .valid) in
-    let p = c .shown .ensures _ (v .1) in (
+    let v = c .before .before .before .before .counted .ensures _ (l .inv .2) (ticking-facts _ (l .inv .3) .valid) in
+    let p = shown-both (c .shown .ensures) _ (v .1) in (
       omega (arith, t),
+      omega (arith, l .inv .1),
       v .1 ∙ ap imageOf (sym (lies _ _ (v .1))),
-      rw (lies _ _ (v .1)) (ticking-kept _ (l .inv .2)),
+      rw (lies _ _ (v .1)) (ticking-kept _ (l .inv .3)),
       search needs,
-      tick-more _ _ _ _ (s .pre .0 .0) _ _ _ _ _ (l .inv .4) t (s .pre .1 .1) (l .inv .2) (v .1) (c .before .before .before .before .before .before .if1 .left) (p .0),
+      tick-more _ _ _ _ (s .pre .0 .0) _ _ _ _ _ (l .inv .5) t (s .pre .1 .1) (l .inv .3) (v .1) (c .before .before .before .before .before .before .if1 .left) (p .0),
     )
 
 same-length-3 : tie.Need-same-length-3 Inv-loop μ-loop
 same-length-3 c =
-    ap length (c .before .loop .inv .1) ∙ image-length _ ∙ sym (image-long _ (c .before .before .before .before .before .pre .0 .0))
+    ap length (c .before .loop .inv .2) ∙ image-length _ ∙ sym (image-long _ (c .before .before .before .before .before .pre .0 .0))
 
 same-length-4 : tie.Need-same-length-4 Inv-loop μ-loop
-same-length-4 c = c .before .loop .inv .3
+same-length-4 c = c .before .loop .inv .4
 
 returns-2 : tie.Need-returns-2 Inv-loop μ-loop
 returns-2 c =
-    ticks-reached _ _ _ _ (c .before .before .before .before .before .pre .0 .0) _ _ _ (c .before .loop .inv .4) (c .before .loop .inv .1)
+    let l = c .before .loop in (
+      ticks-reached _ _ _ _ (c .before .before .before .before .before .pre .0 .0) _ _ _ (l .inv .5) (l .inv .2),
+      λ n k. omega (arith, n, c .loop-test .left),
+    )
 
 pub tick-row-spec : {M : Type 1} → statement M
 tick-row-spec =
