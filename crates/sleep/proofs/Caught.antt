@@ -17,12 +17,13 @@ use Rattle.days.specs.After.{afterOf}
 use Rattle.calendar.specs.declared.Calendar.{Calendar}
 use Rattle.calendar.proofs.Tests.{test-true, true-test}
 use Rattle.calendar.proofs.After.{after-valid}
-use Rattle.days.proofs.Later.{after-invalid}
+use Rattle.days.proofs.Later.{after-invalid, crossings-invalid}
+use Rattle.companion.specs.declared.Alarm.{Alarm}
 use Rattle.companion.specs.declared.Companion.{Companion}
 use Rattle.companion.specs.Map.{AF, CF, W, R, OSCEN}
 use Rattle.companion.specs.Control.{flagged, followed}
 use Rattle.companion.specs.Tick.{matches, toldOf, countedOf, tickOf}
-use Rattle.sleep.specs.Ticks.{ticksOf, rungWithin, caughtOf}
+use Rattle.sleep.specs.Ticks.{ticksOf, rungWithin, caughtOf, leftOf}
 
 -- 00h with its flags set: the flags are those, the rest is kept
 has-af : (k : ℕ) (a b : Bool) → has (flagged k a b) AF ≡ a
@@ -185,3 +186,14 @@ module _ (c : Companion) where
   pub ticks-some : has (c .registers .trim) OSCEN ≡ false → (n : ℕ) → (n ≡ 0 → ⊥) → ticksOf n c ≡ caughtOf n c
   ticks-some e zero h = absurd (h refl)
   ticks-some e (suc n) h = ticks-caught e n
+
+-- what ticks leave of an invalid core
+pub invalid-left : (n k : ℕ) (a : Alarm) (c : Calendar) {x : ℕ} → isValid c ≡ false → x ≡ toldOf k false false
+    → record { control = x; core = c } ≡ leftOf n k a c
+unfolding afterOf
+invalid-left n k a c e t =
+    let v : isValid c && rungWithin n a c ≡ false = rw e in
+    let f : ltb 0 (crossings n c) ≡ false = ap (ltb 0) (crossings-invalid c e n) in
+    let control = t ∙ ap (λ (b : Bool). toldOf k b false) (sym v) ∙ ap (λ (b : Bool). toldOf k (isValid c && rungWithin n a c) b) (sym f) in
+    let core = sym (after-invalid c e n) in
+    λ i. record { control = control i; core = core i }

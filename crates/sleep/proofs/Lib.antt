@@ -4,5 +4,6 @@ pub mod Narrow
 pub mod Rings
 pub mod Caught
 pub mod Run
+pub mod Written
 pub mod Ways
 pub mod Laws

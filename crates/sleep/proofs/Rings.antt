@@ -3,7 +3,7 @@
 -- asked for at one day alone. A property of the larger unit, found in the narrowed stretch, is found in the stretch
 -- itself and the other way round. And the advanced core's fields are the quotients and remainders of its second.
 -- Assumes nothing.
-use Prim.Native.Nat.{ℕ, zero, suc, _+_, _-_, _/_, _%_, _≤_, _<_}
+use Prim.Native.Nat.{ℕ, zero, suc, _+_, _*_, _-_, _/_, _%_, _≤_, _<_}
 use mathlib.Core.Path.{_≡_, refl, sym, _∙_, ap, subst}
 use mathlib.Core.Bool.{Bool, true, false, _&&_, _||_}
 use native.Mathlib.Omega.{arith}
@@ -18,6 +18,7 @@ use Rattle.calendar.specs.Field.{value}
 use Rattle.calendar.proofs.Valid.{valid-facts}
 use Rattle.century.proofs.Instants.{instant-below, month-start-before}
 use Rattle.days.specs.Places.{InMonth, dayOfSecond, calendarAt}
+use Rattle.days.specs.declared.places.Moment.{Moment}
 use Rattle.days.specs.After.{mostTicks}
 use Rattle.days.proofs.Months.{in-month-unique, month-exists}
 use Rattle.days.proofs.Later.{date-below, weekdayOf, after-at}
@@ -25,8 +26,8 @@ use Rattle.companion.specs.declared.Alarm.{Alarm}
 use Rattle.sleep.specs.declared.search.Stretch.{Stretch}
 use Rattle.companion.specs.Map.{MATCH}
 use Rattle.companion.specs.Tick.{matches}
-use Rattle.sleep.specs.Search.{passes, Asks, Some, Tells, DayRings, Narrowed, Skips}
-use Rattle.sleep.specs.Ticks.{rungWithin}
+use Rattle.sleep.specs.Search.{passes, Asks, Some, Tells, DayRings, Narrowed, Skips, Later}
+use Rattle.sleep.specs.Ticks.{rungWithin, TellsRung}
 use Rattle.sleep.proofs.Narrow.{passes-any, passes-one, one-passes}
 
 -- true is not false
@@ -47,10 +48,10 @@ split false b e = clash false e refl
 abbrev pub RingsIn : Alarm → ℕ → ℕ → Type 0
 RingsIn a month d = (d < monthStart (month + 1)) × DayRings a d
 
-module _ (a : Alarm) (month from to : ℕ) (m : InMonth from month) where
+module _ (a : Alarm) (month from to : ℕ) (known : month < 2400) (least : monthStart month ≤ from) where
   -- a day of the month that is not before `from` has no other month
   day-in : (d : ℕ) → from ≤ d → d < monthStart (month + 1) → InMonth d month
-  day-in d h k = record { known = m .known; from = omega (arith, m .from); to = k }
+  day-in d h k = record { known = known; from = omega arith; to = k }
 
   same : (d : ℕ) → from ≤ d → d < monthStart (month + 1) → (r : DayRings a d) → r .month ≡ month
   same d h k r = in-month-unique d (r .month) month (r .inMonth) (day-in d h k)
@@ -68,18 +69,28 @@ module _ (a : Alarm) (month from to : ℕ) (m : InMonth from month) where
       }
 
   module _ (some : from < to) (name : passes (a .month) (month % 12 + 1) ≡ true) where
-    pub rings-any : has (a .date) MATCH ≡ true → Tells true (Some (RingsIn a month) from to)
+    -- any date: the month must not be over
+    pub rings-any : has (a .date) MATCH ≡ true → Tells (ltb from (monthStart (month + 1))) (Some (RingsIn a month) from to)
     rings-any e =
         record {
           yes =
-              λ p. record {
+              λ p.
+              let l = ltb-true from (monthStart (month + 1)) p in
+              record {
                 at = from;
                 from = omega arith;
                 to = some;
-                holds =
-                    (m .to, record { month = month; inMonth = m; date = passes-any (a .date) (from - monthStart month + 1) e; name = name });
+                holds = (
+                  l,
+                  record {
+                    month = month;
+                    inMonth = day-in from (omega arith) l;
+                    date = passes-any (a .date) (from - monthStart month + 1) e;
+                    name = name;
+                  },
+                );
               };
-          no = λ p. clash true refl p;
+          no = λ p s. omega (arith, ltb-false from (monthStart (month + 1)) p, s .from, s .holds .0);
         }
 
     module _ (n : ℕ) (k : Asks (a .date) n) (one : has (a .date) MATCH ≡ false) where
@@ -96,7 +107,6 @@ module _ (a : Alarm) (month from to : ℕ) (m : InMonth from month) where
           let l = ltb-true from end (t .0) in
           let h = leb-true end (monthStart (month + 1)) (t .1) in
           let u = leb-true end to (s .1) in
-          let f = m .from in
           let i = day-in (end - 1) (omega arith) (omega arith) in
           let e : end - 1 - monthStart month + 1 ≡ n = omega arith in
           let w = date-below (end - 1) month i in
@@ -175,6 +185,41 @@ none-skipped a first day to month later before here s d l h k r = by-month (ltb 
         s .none (r .month) (between-from d month (r .month) (r .inMonth) (ltb-false d (monthStart (month + 1)) e))
         (between-to d later (r .month) (r .inMonth) (omega (arith, s .after)) h) (r .name)
 
+-- none up to the later of two days
+pub none-later :
+    (a : Alarm) (first day to start later : ℕ) → Later day start later
+    → ((d : ℕ) → first ≤ d → d < day → d < to → DayRings a d → ⊥)
+    → ((d : ℕ) → first ≤ d → d < start → d < to → DayRings a d → ⊥)
+    → (d : ℕ) → first ≤ d → d < later → d < to → DayRings a d → ⊥
+none-later a first day to start later r before skipped d l h k = by-start (ltb d start) refl
+  where
+    by-start : (b : Bool) → ltb d start ≡ b → DayRings a d → ⊥
+    by-start true e = skipped d l (ltb-true d start e) k
+    by-start false e = before d l (r .one d h (ltb-false d start e)) k
+
+-- neither a date nor a month is asked for: the first day rings
+pub tells-first : (a : Alarm) (first to : ℕ) → has (a .date) MATCH && has (a .month) MATCH ≡ true → first < to → to ≤ 72000
+    → Tells true (Some (DayRings a) first to)
+tells-first a first to e l h =
+    let m = month-exists first (omega arith) in
+    let s = split (has (a .date) MATCH) (has (a .month) MATCH) e in
+    record {
+      yes =
+          λ p. record {
+            at = first;
+            from = omega arith;
+            to = l;
+            holds =
+                record {
+                  month = m .index;
+                  inMonth = m .inMonth;
+                  date = passes-any (a .date) (first - monthStart (m .index) + 1) (s .0);
+                  name = passes-any (a .month) (m .index % 12 + 1) (s .1);
+                };
+          };
+      no = λ p. clash true refl p;
+    }
+
 -- all days told
 pub tells-none :
     (a : Alarm) (first to : ℕ) → ((d : ℕ) → first ≤ d → d < to → DayRings a d → ⊥)
@@ -214,6 +259,18 @@ tells-narrowed alarm span s r P n t =
           let d = n .down (f .at) (f .from) (f .to) (f .holds .0) in
           t .no p (record { at = f .at / span; from = d .0; to = d .1; holds = f .holds .1 });
     }
+
+-- an empty stretch has none
+pub tells-empty : (P : ℕ → Type 0) (lo hi : ℕ) → hi ≤ lo → Tells false (Some P lo hi)
+tells-empty P lo hi l =
+    record { yes = λ p. clash false p refl; no = λ p s. omega (arith, s .from, s .to) }
+
+-- the first of a narrowed stretch is not before the stretch
+pub narrowed-first : (alarm span : ℕ) (s r : Stretch) → Narrowed alarm span s r → r .from < r .to
+    → Some (λ x. x / span ≡ r .from) (s .from) (s .to)
+narrowed-first alarm span s r n l =
+    let u = n .up (r .from) (omega arith) l in
+    record { at = u .at; from = u .from; to = u .to; holds = u .holds .0 }
 
 -- a second rings: its three times pass, and its day rings
 abbrev pub SecondRings : Alarm → ℕ → Type 0
@@ -312,3 +369,10 @@ module _ (a : Alarm) (c : Calendar) (v : T (isValid c)) (n : ℕ) (small : n ≤
         to = omega arith;
         holds = rung-rings j (omega arith) r;
       })))
+
+-- the same where it is known where the core stands
+pub rung-by : (a : Alarm) (m : Moment) (n : ℕ) (t : Bool) → n ≤ mostTicks
+    → Tells t (Some (SecondRings a) (m .day * 86400 + m .second + 1) (m .day * 86400 + m .second + 1 + n)) → TellsRung n a m t
+rung-by a m n t small u c v e =
+    tells-rung a c v n small t
+    (subst (λ (m : Moment). Tells t (Some (SecondRings a) (m .day * 86400 + m .second + 1) (m .day * 86400 + m .second + 1 + n))) e u)

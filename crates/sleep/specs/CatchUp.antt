@@ -1,6 +1,7 @@
 -- SPDX-License-Identifier: Apache-2.0
 -- Catching up (02, number 7): many ticks on a state's image in one call. `CatchUpSettled` is the entry's whole outcome.
 --   ticks, caughtUp      n events of byte 4; the state that they lead to as a list
+--   alarmAt, CountedOn   bytes 9 to 13 as an alarm; ticks that count, on a state's image
 --   caughtOn, catchUpOf  the tests in the order of the numbers
 --   CatchUpSettled       the entry's contract
 -- Assumes nothing.
@@ -9,15 +10,18 @@ use mathlib.Core.Path.{_≡_}
 use mathlib.Core.Bool.{cond}
 use mathlib.Core.List.{List, []}
 use lib.Dec.{leb}
-use lib.ListN.{replicate}
+use lib.ListN.{replicate, getD}
+use Rattle.companion.specs.declared.Alarm.{Alarm}
 use Rattle.days.specs.After.{mostTicks}
+use Rattle.device.specs.Bus.{withCompanion}
 use Rattle.device.specs.Numbers.{accepted, wrongState, tooManyTicks}
 use Rattle.device.specs.declared.State.{State}
 use Rattle.image.specs.Image.{imageOf, decodeOf}
 use Rattle.rig.specs.Run.{runOf}
 use Rattle.rig.specs.Fresh.{Made}
-use Rattle.image.specs.declared.Decoded.{Decoded}
-use Rattle.image.specs.declared.Decoded.the-variants.{Good, Bad}
+use Rattle.rig.specs.declared.Decoded.{Decoded}
+use Rattle.rig.specs.declared.Decoded.the-variants.{Good, Bad}
+use Rattle.sleep.specs.Ticks.{caughtOf}
 
 -- 01, Event bytes and answer bytes: "4 one-second tick": n of them.
 abbrev pub ticks : ℕ → List ℕ
@@ -27,6 +31,21 @@ ticks n = replicate n 4
 -- lent here; `Laws.AsTheListRun` says it for every memory.
 unfoldable pub caughtUp : ℕ → State → State
 caughtUp n s = runOf s [] (ticks n) .state
+
+-- Auxiliary: five bytes of an image.
+abbrev pub alarmAt : List ℕ → Alarm
+alarmAt i =
+    record {
+      seconds = getD i 9 0;
+      minutes = getD i 10 0;
+      hours = getD i 11 0;
+      date = getD i 12 0;
+      month = getD i 13 0;
+    }
+
+-- Auxiliary: the image of a state becomes that of the state after n ticks that count.
+abbrev pub CountedOn : ℕ → List ℕ → List ℕ → Type 0
+CountedOn n i i′ = (s : State) → i ≡ imageOf s → i′ ≡ imageOf (withCompanion s (caughtOf n (s .companion)))
 
 -- "Refused by number 8, after number 2, and changes nothing."
 abbrev pub caughtOn : Decoded → List ℕ → ℕ → Made

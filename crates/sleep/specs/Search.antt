@@ -7,6 +7,7 @@
 --   Tells r A            the test r tells whether A
 --   DayRings a d         the date and the month of the day d pass
 --   Skips a k j          j is a later month than k, and those between do not pass
+--   Later a b r          r is the later of the days a and b
 --   Narrowed a b s r     r are the minutes (hours, days) in which some second (minute, hour) of s passes
 -- Assumes nothing.
 use Prim.Native.Nat.{ℕ, _+_, _-_, _/_, _%_, _≤_, _<_}
@@ -47,6 +48,11 @@ pub record Skips (alarm month later : ℕ) : Type 0 where
   pub after : month < later
   pub most : later ≤ month + 12
   pub none : (k : ℕ) → month < k → k < later → passes alarm (k % 12 + 1) ≡ true → ⊥
+
+pub record Later (day start r : ℕ) : Type 0 where
+  pub first : day ≤ r
+  pub second : start ≤ r
+  pub one : (d : ℕ) → d < r → start ≤ d → d < day
 
 pub record Narrowed (alarm span : ℕ) (s r : Stretch) : Type 0 where
   pub most : r .to ≤ s .to / span + 1

@@ -3,18 +3,20 @@
 // of its own: a host that never sleeps links nothing of it.
 //
 //   search.rt   whether one of many seconds rings the alarm
-//   ticks.rt    many ticks of a companion and of a state, by value
+//   ticks.rt    what many ticks leave of 00h and of the core, by value
+//   bytes.rt    the same on an image: no byte is written but those that ticks change
 //   lib.rt      the entry
 ghost use mathlib.Core.Path.{_≡_};
 ghost use Rattle.sleep.specs.CatchUp.{CatchUpSettled};
-use crate::ticks::state_caught_up;
+use crate::bytes::count;
+use companion::map::OSCEN;
 use device::numbers::ACCEPTED;
 use device::numbers::TOO_MANY_TICKS;
 use device::numbers::WRONG_STATE;
-use image::Decoded;
-use image::read::decode;
-use image::write::write_image;
+use rig::accept::is_image;
+use weights::has;
 
+mod bytes;
 mod search;
 pub mod ticks;
 
@@ -22,17 +24,26 @@ pub mod ticks;
 pub const MOST_TICKS: u64 = 31622400;
 
 // Catches up: refused by the first number that fits, with nothing written; or the image of the state that so many ticks
-// lead to, one by one.
+// lead to, one by one. No tick changes nothing, and neither do ticks without a supply or while the oscillator is off.
 #[no_mangle]
 pub extern "C" fn fm3130_catch_up(image: &mut [u8], ticks: u64) -> u64
     ensures { λ r. ⌜ CatchUpSettled (now (image .entry)) ticks r (now (image .exit)) ⌝ }
 {
-    let Decoded::Good(state) = decode(image) else {
+    if !is_image(image) {
         return WRONG_STATE as u64;
-    };
+    }
     if MOST_TICKS < ticks {
         return TOO_MANY_TICKS as u64;
     }
-    write_image(state_caught_up(state, ticks as u32), image);
+    if ticks == 0 {
+        return ACCEPTED as u64;
+    }
+    if 1 < image[25] {
+        return ACCEPTED as u64;
+    }
+    if has(image[1], OSCEN) {
+        return ACCEPTED as u64;
+    }
+    count(image, ticks as u32);
     ACCEPTED as u64
 }

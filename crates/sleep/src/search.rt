@@ -3,22 +3,17 @@
 // stretch of minutes, those in a stretch of hours, those in a stretch of days; the days are looked at month by month, and
 // months of another name than the one asked for are passed over.
 ghost use mathlib.Core.Path.{_≡_};
-ghost use mathlib.Core.Bool.{_&&_};
 ghost use Prim.Native.Nat.{_+_, _≤_, _<_};
-ghost use lib.Dec.{T};
-ghost use Rattle.calendar.specs.Next.{isValid};
+ghost use lib.Dec.{leb};
 ghost use Rattle.calendar.specs.Instant.{monthStart};
-ghost use Rattle.days.specs.Table.{IsTable};
-ghost use Rattle.days.specs.Places.{InMonth};
+ghost use Rattle.days.specs.Places.{Standing};
 ghost use Rattle.days.specs.After.{mostTicks};
-ghost use Rattle.sleep.specs.Search.{passes, Asks, Some, Tells, DayRings, Narrowed, Skips};
-ghost use Rattle.sleep.specs.Ticks.{rungWithin};
-use calendar::Calendar;
+ghost use Rattle.sleep.specs.Search.{passes, Asks, Some, Tells, DayRings, Narrowed, Skips, Later};
+ghost use Rattle.sleep.specs.Ticks.{TellsRung};
 use companion::Alarm;
 use companion::map::MATCH;
-use days::places::instant;
+use days::places::Moment;
 use days::places::number;
-use days::starts::month_of;
 use days::starts::month_start;
 use weights::has;
 
@@ -54,15 +49,19 @@ impl Stretch {
         Stretch { from: 0, to: 0 }
     }
 
+    // Whether there is none.
+    fn is_empty(self) -> bool
+        ensures { λ r. ⌜ r ≡ leb (self .to) (self .from) ⌝ }
+    {
+        self.to <= self.from
+    }
+
     // The numbers of the next larger unit, `span` of this one's, in which one of these passes: from the first one's to the
     // last one's, or, where a number is asked for, those in which it comes.
     fn narrowed(self, alarm: u8, span: u32) -> Stretch
-        requires { ⌜ (0 < span) × (span ≤ 60) × (self .to ≤ 4000000000) ⌝ }
+        requires { ⌜ (0 < span) × (span ≤ 60) × (self .from < self .to) × (self .to ≤ 4000000000) ⌝ }
         ensures { λ r. ⌜ Narrowed alarm span self r ⌝ }
     {
-        if self.to <= self.from {
-            return Stretch::none();
-        }
         if has(alarm, MATCH) {
             return Stretch {
                 from: self.from / span,
@@ -82,78 +81,88 @@ impl Stretch {
 }
 
 // Whether a day rings that is in a month and from `from` to below `to`. A month has each date once at most.
-fn rings_in(starts: &[u16; 1200], alarm: Alarm, month: usize, from: u32, to: u32) -> bool
-    requires { ⌜ (IsTable (now starts)) × (InMonth from month) × (month < 2399) × (from < to) ⌝ }
+fn rings_in(alarm: Alarm, month: u32, from: u32, to: u32) -> bool
+    requires { ⌜ (month < 2399) × (monthStart month ≤ from) × (from < to) ⌝ }
     ensures { λ r. ⌜ Tells r (Some (λ d. (d < monthStart (month + 1)) × DayRings alarm d) from to) ⌝ }
 {
-    if !passes(alarm.month, (month % 12 + 1) as u32) {
+    if !passes(alarm.month, month % 12 + 1) {
         return false;
     }
+    let next = month_start(month + 1);
     if has(alarm.date, MATCH) {
-        return true;
+        return from < next;
     }
-    let end = month_start(starts, month) + asked(alarm.date);
-    (from < end) & (end <= month_start(starts, month + 1)) & (end <= to)
+    let end = month_start(month) + asked(alarm.date);
+    (from < end) & (end <= next) & (end <= to)
 }
 
 // The next month to look at: the one after, or, where a month of the year is asked for, the next of that name. A number
 // asked for is at most 255, and 264 is whole years.
-fn next_month(alarm: u8, month: usize) -> usize
+fn next_month(alarm: u8, month: u32) -> u32
     requires { ⌜ month < 2400 ⌝ }
     ensures { λ r. ⌜ Skips alarm month r ⌝ }
 {
     if has(alarm, MATCH) {
         return month + 1;
     }
-    let past = (month + 265 - asked(alarm) as usize) % 12;
+    let past = (month + 265 - asked(alarm)) % 12;
     month + 12 - past
 }
 
-// Whether one of some days rings, month by month.
-fn rings_on(starts: &[u16; 1200], alarm: Alarm, days: Stretch) -> bool
-    requires { ⌜ (IsTable (now starts)) × (days .to ≤ 72000) ⌝ }
+// The later of two days.
+fn later(day: u32, start: u32) -> u32
+    ensures { λ r. ⌜ Later day start r ⌝ }
+{
+    if day < start {
+        return start;
+    }
+    day
+}
+
+// Whether one of some days rings, month by month from one on that starts before them. Where neither a date nor a month is
+// asked for, the first does.
+fn rings_on(alarm: Alarm, first: u32, days: Stretch) -> bool
+    requires { ⌜ (monthStart first ≤ days .from) × (days .from < days .to) × (days .to ≤ 72000) ⌝ }
     ensures { λ r. ⌜ Tells r (Some (DayRings alarm) (days .from) (days .to)) ⌝ }
 {
+    if has(alarm.date, MATCH) & has(alarm.month, MATCH) {
+        return true;
+    }
     let to = days.to;
     let mut day = days.from;
-    if to <= day {
-        return false;
-    }
-    let mut month = month_of(starts, day);
+    let mut month = first;
     while day < to {
-        if rings_in(starts, alarm, month, day, to) {
+        if rings_in(alarm, month, day, to) {
             return true;
         }
         month = next_month(alarm.month, month);
-        day = month_start(starts, month);
+        day = later(day, month_start(month));
     }
     false
 }
 
-// Whether one of up to a leap year of ticks of a valid calendar brings it to the alarm.
-fn rings_within(starts: &[u16; 1200], alarm: Alarm, core: Calendar, n: u32) -> bool
-    requires { ⌜ (IsTable (now starts)) × (T (isValid core)) × (n ≤ mostTicks) ⌝ }
-    ensures { λ r. ⌜ r ≡ rungWithin n alarm core ⌝ }
+// Whether one of up to a leap year of ticks of a valid calendar, of which it is known where it stands, brings it to the
+// alarm. Each larger unit is asked only if the smaller ones left some of it.
+pub(crate) fn rings_within(alarm: Alarm, from: Moment, n: u32) -> bool
+    requires { ⌜ (Standing from) × (0 < n) × (n ≤ mostTicks) ⌝ }
+    ensures { λ r. ⌜ TellsRung n alarm from r ⌝ }
 {
-    let first = instant(starts, core) + 1;
-    let end = first + n;
+    let first = from.day * 86400 + from.second + 1;
     let seconds = Stretch {
         from: first,
-        to: end,
+        to: first + n,
     };
     let minutes = seconds.narrowed(alarm.seconds, 60);
-    let hours = minutes.narrowed(alarm.minutes, 60);
-    let days = hours.narrowed(alarm.hours, 24);
-    rings_on(starts, alarm, days)
-}
-
-// The same of any calendar: an invalid one rings nothing.
-pub(crate) fn rings(starts: &[u16; 1200], alarm: Alarm, core: Calendar, n: u32) -> bool
-    requires { ⌜ (IsTable (now starts)) × (n ≤ mostTicks) ⌝ }
-    ensures { λ r. ⌜ r ≡ isValid core && rungWithin n alarm core ⌝ }
-{
-    if core.is_valid() {
-        return rings_within(starts, alarm, core, n);
+    if minutes.is_empty() {
+        return false;
     }
-    false
+    let hours = minutes.narrowed(alarm.minutes, 60);
+    if hours.is_empty() {
+        return false;
+    }
+    let days = hours.narrowed(alarm.hours, 24);
+    if days.is_empty() {
+        return false;
+    }
+    rings_on(alarm, from.month, days)
 }

@@ -23,9 +23,6 @@ add-past c = search needs
 asked-requires : tie.Need-asked-requires
 asked-requires c κs = search needs
 
-cast-past : tie.Need-cast-past
-cast-past c = search needs
-
 sub-past : tie.Need-sub-past
 sub-past c = omega (arith, c .asked .ensures .least)
 
@@ -48,7 +45,6 @@ next-month-spec =
     returns
     add-past
     asked-requires
-    cast-past
     sub-past
     add-result-2
     sub-result

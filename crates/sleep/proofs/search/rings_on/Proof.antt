@@ -1,42 +1,51 @@
 -- SPDX-License-Identifier: Apache-2.0
--- `sleep::search::rings_on` meets its contract. The invariant: `day` is in `month`, and no day before it rings. The
--- measure is the days left; the next month's start is later than the day. Assumes nothing.
+-- `sleep::search::rings_on` meets its contract. The invariant: `month` starts on `day` or before it, and no day before `day`
+-- rings. The measure is the months left.
+-- Assumes nothing.
 use native.Mathlib.Omega.{arith}
-use Prim.Native.Nat.{ℕ, _+_, _-_, _≤_, _<_}
-use mathlib.Core.Path.{sym, subst}
-use Rattle.days.specs.Places.{InMonth}
-use Rattle.century.proofs.Instants.{month-start-before}
-use Rattle.days.proofs.Months.{month-first, month-not-last, month-start-near}
-use Rattle.sleep.specs.Search.{DayRings}
-use Rattle.sleep.proofs.Rings.{none-skipped, tells-none, tells-some}
+use Prim.Native.Nat.{ℕ, _-_, _≤_, _<_}
+use mathlib.Core.Path.{subst}
+use Rattle.calendar.specs.Instant.{monthStart}
+use Rattle.days.proofs.Months.{month-start-near}
+use Rattle.sleep.specs.Search.{DayRings, Later}
+use Rattle.sleep.proofs.Rings.{none-skipped, none-later, tells-first, tells-none, tells-some}
+use borrow.Author.Needs.{needs}
 use Rattle.sleep.proofs.search.rings_on.Statement.{statement}
 use Rattle.sleep.proofs.search.rings_on.Tie as tie
 
--- the month to look at next is one of the table's
-known : (d k j : ℕ) → InMonth d k → d < 72000 → j ≤ k + 12 → j < 2400
-known d k j m h l = omega (arith, month-start-near k .1, m .from)
+-- a month that starts well before the end is not one of the last
+early : (d k : ℕ) → monthStart k ≤ d → d < 72000 → k < 2380
+early d k m h = omega (arith, month-start-near k .1)
 
 abbrev Inv-loop : tie.InvT-loop
-Inv-loop starts alarm to day₀ month₀ day month =
-    (InMonth day month) × (day₀ ≤ day) × ((d : ℕ) → day₀ ≤ d → d < day → d < to → DayRings alarm d → ⊥)
+Inv-loop alarm first to day₀ month₀ day month =
+    (monthStart month ≤ day) × (day₀ ≤ day) × ((d : ℕ) → day₀ ≤ d → d < day → d < to → DayRings alarm d → ⊥)
 
 abbrev μ-loop : tie.MeasureT-loop
-μ-loop starts alarm to day₀ month₀ day month = to - day
+μ-loop alarm first to day₀ month₀ day month = 2400 - month
+
+has-requires : tie.Need-has-requires Inv-loop μ-loop
+has-requires c κs = search needs
+
+has-requires-2 : tie.Need-has-requires-2 Inv-loop μ-loop
+has-requires-2 c κs = search needs
 
 returns : tie.Need-returns Inv-loop μ-loop
-returns c = tells-none (c .before .args .alarm) _ _ (λ d l h. omega (arith, c .if1 .taken))
-
-month-of-requires : tie.Need-month-of-requires Inv-loop μ-loop
-month-of-requires c κs = (c .before .pre .0, omega arith)
+returns c =
+    let s = c .before .before .before in
+    tells-first (s .args .alarm) _ _ (rw (← c .before .before .has .ensures, ← c .before .has2 .ensures, c .if1 .taken))
+    (s .pre .1) (s .pre .2)
 
 loop-holds : tie.Need-loop-holds Inv-loop μ-loop
-loop-holds c = (c .month-of .ensures, omega arith, λ d l h k. omega arith)
+loop-holds c = (c .before .before .before .pre .0, omega arith, λ d l h k. omega arith)
 
 rings-in-requires : tie.Need-rings-in-requires Inv-loop μ-loop
 rings-in-requires c κs =
     let l = c .before .loop in
-    let s = c .before .before .before .before in
-    (s .pre .0, l .inv .0, month-not-last (l .day) (l .month) (l .inv .0) (omega (arith, c .loop-test .taken, s .pre .1)), c .loop-test .taken)
+    let s = c .before .before .before .before .before in
+    let t = c .loop-test .taken in
+    let e = early (l .day) (l .month) (l .inv .0) (omega (arith, t, s .pre .2)) in
+    (omega arith, l .inv .0, t)
 
 returns-2 : tie.Need-returns-2 Inv-loop μ-loop
 returns-2 c =
@@ -44,37 +53,40 @@ returns-2 c =
     tells-some _ _ (l .day) _ (l .month) (l .inv .1) (c .before .rings-in .ensures .yes (c .if2 .taken))
 
 next-month-requires : tie.Need-next-month-requires Inv-loop μ-loop
-next-month-requires c κs = c .before .before .before .loop .inv .0 .known
+next-month-requires c κs =
+    let l = c .before .before .before .loop in
+    let s = c .before .before .before .before .before .before .before in
+    let e = early (l .day) (l .month) (l .inv .0) (omega (arith, c .before .before .loop-test .taken, s .pre .2)) in
+    omega arith
 
 month-start-requires : tie.Need-month-start-requires Inv-loop μ-loop
 month-start-requires c κs =
     let l = c .before .before .before .before .loop in
-    let s = c .before .before .before .before .before .before .before in
-    let t = c .before .before .before .loop-test .taken in
-    (s .pre .0, known (l .day) (l .month) _ (l .inv .0) (omega (arith, t, s .pre .1)) (c .next-month .ensures .most))
+    let s = c .before .before .before .before .before .before .before .before in
+    let e = early (l .day) (l .month) (l .inv .0) (omega (arith, c .before .before .before .loop-test .taken, s .pre .2)) in
+    omega (arith, c .next-month .ensures .most)
+
+later-requires : tie.Need-later-requires Inv-loop μ-loop
+later-requires c κs = search needs
 
 loop-less : tie.Need-loop-less Inv-loop μ-loop
 loop-less c =
-    let l = c .before .before .before .before .before .loop in
-    let t = c .before .before .before .before .loop-test .taken in
-    let b = month-start-before (l .month) (c .before .next-month .result) (c .before .next-month .ensures .after) in
-    omega (arith, l .inv .0 .to, c .month-start .ensures)
+    let l = c .before .before .before .before .before .before .loop in
+    let s = c .before .before .before .before .before .before .before .before .before .before in
+    let e = early (l .day) (l .month) (l .inv .0) (omega (arith, c .before .before .before .before .before .loop-test .taken, s .pre .2)) in
+    omega (arith, c .before .before .next-month .ensures .after)
 
 loop-again : tie.Need-loop-again Inv-loop μ-loop
 loop-again c =
-    let l = c .before .before .before .before .before .loop in
-    let t = c .before .before .before .before .loop-test .taken in
-    let s = c .before .before .before .before .before .before .before .before in
-    let later = c .before .next-month .result in
-    let n = c .before .next-month .ensures in
-    let e = c .month-start .ensures in
-    let b = month-start-before (l .month) later (n .after) in
-    let m = known (l .day) (l .month) later (l .inv .0) (omega (arith, t, s .pre .1)) (n .most) in (
-      subst (λ (d : ℕ). InMonth d later) (sym e) (month-first later m),
-      omega (arith, l .inv .0 .to, l .inv .1),
-      λ d b h k. none-skipped _ _ (l .day) _ (l .month) later (l .inv .2)
-          (c .before .before .before .rings-in .ensures .no (c .before .before .if2 .left)) n d b
-          (subst (λ (n : ℕ). d < n) e h) k,
+    let n = c .before .before in
+    let l = n .before .before .before .before .loop in
+    let e = c .before .month-start .ensures in
+    let r = subst (λ (k : ℕ). Later (l .day) k (c .later .result)) e (c .later .ensures) in (
+      r .second,
+      omega (arith, r .first, l .inv .1),
+      none-later _ _ (l .day) _ _ _ r (l .inv .2)
+          (none-skipped _ _ (l .day) _ (l .month) (n .next-month .result) (l .inv .2)
+          (n .before .before .rings-in .ensures .no (n .before .if2 .left)) (n .next-month .ensures)),
     )
 
 returns-3 : tie.Need-returns-3 Inv-loop μ-loop
@@ -88,13 +100,15 @@ rings-on-spec =
     (tie.spec
     Inv-loop
     μ-loop
+    has-requires
+    has-requires-2
     returns
-    month-of-requires
     loop-holds
     rings-in-requires
     returns-2
     next-month-requires
     month-start-requires
+    later-requires
     loop-less
     loop-again
     returns-3)
