@@ -13,11 +13,11 @@ use Rattle.companion.specs.Map.{OSCEN}
 use Rattle.device.specs.Bus.{withCompanion}
 use Rattle.device.specs.Numbers.{accepted, wrongState, tooManyTicks}
 use Rattle.device.specs.declared.State.{State}
-use Rattle.rig.specs.Image.{imageOf, candidate, decodeOf}
-use Rattle.rig.specs.Accepting.{isImage}
+use Rattle.image.specs.Image.{imageOf, candidate, decodeOf}
+use Rattle.image.specs.Accepting.{isImage}
 use Rattle.rig.specs.Fresh.{Made}
-use Rattle.rig.specs.declared.Decoded.the-variants.{Good, Bad}
-use Rattle.rig.proofs.Accepts.{image-read, image-written}
+use Rattle.image.specs.declared.Decoded.the-variants.{Good, Bad}
+use Rattle.image.proofs.Accepts.{image-read, image-written}
 use Rattle.sleep.specs.CatchUp.{caughtUp, CountedOn, catchUpOf, CatchUpSettled}
 use Rattle.sleep.proofs.Caught.{ticks-stopped, ticks-some}
 use Rattle.sleep.proofs.Run.{caught-supplied, caught-unsupplied, caught-none}

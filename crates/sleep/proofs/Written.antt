@@ -20,7 +20,7 @@ use Rattle.device.specs.Bus.{withCompanion}
 use Rattle.device.specs.Power.{isSupplied}
 use Rattle.device.specs.declared.State.{State}
 use Rattle.frame.specs.Layout.{powerOf}
-use Rattle.rig.specs.Image.{calendarBytes, imageOf, calendarAt}
+use Rattle.image.specs.Image.{calendarBytes, imageOf, calendarAt}
 use Rattle.sleep.specs.Ticks.{leftOf, caughtOf}
 use Rattle.sleep.specs.CatchUp.{alarmAt}
 use Rattle.sleep.specs.declared.ticks.Left.{Left}

@@ -19,8 +19,8 @@ use Rattle.device.specs.declared.State.{State}
 use Rattle.image.specs.Image.{imageOf, decodeOf}
 use Rattle.rig.specs.Run.{runOf}
 use Rattle.rig.specs.Fresh.{Made}
-use Rattle.rig.specs.declared.Decoded.{Decoded}
-use Rattle.rig.specs.declared.Decoded.the-variants.{Good, Bad}
+use Rattle.image.specs.declared.Decoded.{Decoded}
+use Rattle.image.specs.declared.Decoded.the-variants.{Good, Bad}
 use Rattle.sleep.specs.Ticks.{caughtOf}
 
 -- 01, Event bytes and answer bytes: "4 one-second tick": n of them.

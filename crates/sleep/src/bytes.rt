@@ -6,7 +6,7 @@ ghost use Prim.Native.Nat.{_≤_, _<_};
 ghost use lib.ListN.{length, set};
 ghost use lib.Seq.{sets};
 ghost use Rattle.days.specs.After.{mostTicks};
-ghost use Rattle.rig.specs.Image.{imageSize, calendarBytes};
+ghost use Rattle.image.specs.Image.{imageSize, calendarBytes};
 ghost use Rattle.sleep.specs.CatchUp.{alarmAt, CountedOn};
 use crate::ticks::Left;
 use crate::ticks::counted;
@@ -14,7 +14,7 @@ use calendar::Calendar;
 use companion::Alarm;
 use companion::map::R;
 use companion::map::W;
-use rig::image::calendar_at;
+use image::read::calendar_at;
 use weights::has;
 
 // Bytes 9 to 13, as an alarm.

@@ -13,7 +13,7 @@ use companion::map::OSCEN;
 use device::numbers::ACCEPTED;
 use device::numbers::TOO_MANY_TICKS;
 use device::numbers::WRONG_STATE;
-use rig::accept::is_image;
+use image::accept::is_image;
 use weights::has;
 
 mod bytes;

@@ -6,8 +6,8 @@ use mathlib.Core.Bool.{true}
 use native.Mathlib.Omega.{arith}
 use denote.Ref.{now}
 use borrow.Author.Tests.{not-true, not-false}
-use Rattle.rig.specs.Accepting.{isImage}
-use Rattle.rig.proofs.Accepts.{image-read, image-not-read, image-long}
+use Rattle.image.specs.Accepting.{isImage}
+use Rattle.image.proofs.Accepts.{image-read, image-not-read, image-long}
 use Rattle.sleep.proofs.Ways.{catch-up-wrong-image, catch-up-too-many, catch-up-none, catch-up-dark}
 use Rattle.sleep.proofs.Ways.{catch-up-stopped, catch-up-counted}
 use borrow.Author.Needs.{needs}

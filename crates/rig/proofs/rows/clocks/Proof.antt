@@ -51,10 +51,12 @@ returns-2 c = c .before .before .before .before .before .before .one-clock .ensu
 
 receive-row-requires : tie.Need-receive-row-requires
 receive-row-requires c κs =
-    let s = c .before .before .before .before .before .before .before .before .before .before .before in (
+    let at3 = c .before .before .before in
+    let at5 = at3 .before .before in
+    let s = at5 .before .before .before .before .before .before in (
       s .pre .0 .image,
       (
-        (omega (arith, c .before .before .before .before .before .if1 .left), c .before .before .if3 .taken, omega (arith, c .before .before .before .if2 .left)),
+        (omega (arith, at5 .if1 .left), c .before .before .if3 .taken, omega (arith, at3 .if2 .left)),
         (omega (arith, s .pre .1 .0), s .pre .1 .1),
       ),
     )
@@ -67,19 +69,24 @@ same-length-7 c = search needs
 
 returns-3 : tie.Need-returns-3
 returns-3 c =
-    let s = c .before .before .before .before .before .before .before .before .before .before .before .before .before .before .before .before in
-    let e = c .before .before .before .before .receive-row .ensures in
+    let at4 = c .before .before .before .before in
+    let s = at4 .before .before .before .before .before .before .before .before .before .before .before .before in
+    let e = at4 .receive-row .ensures in
     row-done _ _ _ _ _ (s .pre .0) (s .pre .1 .0) _ _ _ (e .0) (e .1 (s .pre .1 .0) (s .pre .1 .2))
 
 first-sent-requires : tie.Need-first-sent-requires
 first-sent-requires c κs =
-    let s = c .before .before .before .before .before .before .before .before .before .before .before .before in
-    (s .pre .0, ((omega (arith, c .before .before .before .if3 .left), omega (arith, c .before .before .before .before .if2 .left)), s .pre .1))
+    let at3 = c .before .before .before in
+    let at4 = at3 .before in
+    let s = at4 .before .before .before .before .before .before .before .before in
+    (s .pre .0, ((omega (arith, at3 .if3 .left), omega (arith, at4 .if2 .left)), s .pre .1))
 
 send-row-requires : tie.Need-send-row-requires
 send-row-requires c κs =
-    let s = c .before .before .before .before .before .before .before .before .before .before .before .before .before .before .before .before .before .before .before in
-    let b = c .before .before .before .before .before .before .first-sent .ensures in (
+    let at6 = c .before .before .before .before .before .before in
+    let at14 = at6 .before .before .before .before .before .before .before .before in
+    let s = at14 .before .before .before .before .before in
+    let b = at6 .first-sent .ensures in (
       b .along .image,
       (
         (b .sends, b .some, b .few),
@@ -98,8 +105,11 @@ same-length-10 c = search needs
 
 returns-4 : tie.Need-returns-4
 returns-4 c =
-    let s = c .before .before .before .before .before .before .before .before .before .before .before .before .before .before .before .before .before .before .before .before .before .before .before .before in
-    row-sent _ _ _ _ _ (s .pre .0) (s .pre .1 .0) _ _ _ _ _ _ (s .pre .1 .2) (c .before .before .before .before .before .before .before .before .before .before .before .first-sent .ensures) (c .before .before .before .before .send-row .ensures)
+    let at4 = c .before .before .before .before in
+    let at11 = at4 .before .before .before .before .before .before .before in
+    let at19 = at11 .before .before .before .before .before .before .before .before in
+    let s = at19 .before .before .before .before .before in
+    row-sent _ _ _ _ _ (s .pre .0) (s .pre .1 .0) _ _ _ _ _ _ (s .pre .1 .2) (at11 .first-sent .ensures) (at4 .send-row .ensures)
 
 pub clocks-spec : {M : Type 1} → statement M
 clocks-spec =

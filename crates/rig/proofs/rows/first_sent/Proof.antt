@@ -32,28 +32,34 @@ fetched-requires c κs =
 
 shown-requires : tie.Need-shown-requires
 shown-requires c κs =
-    image-long _ (c .before .before .before .before .before .before .before .before .before .before .pre .0 .image)
+    let at10 = c .before .before .before .before .before .before .before .before .before .before in
+    image-long _ (at10 .pre .0 .image)
 
 shared-slice-read-event : tie.Need-shared-slice-read-event
 shared-slice-read-event c =
-    c .before .before .before .before .before .before .before .before .before .before .before .before .pre .1 .1 .0
+    let at12 = c .before .before .before .before .before .before .before .before .before .before .before .before in
+    at12 .pre .1 .1 .0
 
 sending-line-requires : tie.Need-sending-line-requires
 sending-line-requires c κs = omega arith
 
 lined-requires : tie.Need-lined-requires
 lined-requires c κs =
-    let s = c .before .before .before .before .before .before .before .before .before .before .before .before .before in
+    let at8 = c .before .before .before .before .before .before .before .before in
+    let s = at8 .before .before .before .before .before in
     shown-both (c .before .before .shown .ensures) _ (sym (image-written _ (s .pre .0 .image))) .1
 
 slice-write-answers : tie.Need-slice-write-answers
 slice-write-answers c =
-    let s = c .before .before .before .before .before .before .before .before .before .before .before .before .before .before in
+    let at8 = c .before .before .before .before .before .before .before .before in
+    let s = at8 .before .before .before .before .before .before in
     omega (arith, s .pre .1 .1 .0, s .pre .1 .1 .1)
 
 settle-requires : tie.Need-settle-requires
 settle-requires c κs =
-    image-long _ (c .before .before .before .before .before .before .before .before .before .before .before .before .before .before .before .pre .0 .image)
+    let at8 = c .before .before .before .before .before .before .before .before in
+    let at15 = at8 .before .before .before .before .before .before .before in
+    image-long _ (at15 .pre .0 .image)
 
 add-result : tie.Need-add-result
 add-result c = search needs
@@ -66,12 +72,17 @@ same-length-2 c = search needs
 
 returns-2 : tie.Need-returns-2
 returns-2 c =
-    let s = c .before .before .before .before .before .before .before .before .before .before .before .before .before .before .before .before .before .before in
+    let at4 = c .before .before .before .before in
+    let at5 = at4 .before in
+    let at7 = at5 .before .before in
+    let at9 = at7 .before .before in
+    let at12 = at9 .before .before .before in
+    let s = at12 .before .before .before .before .before .before in
     let w = sym (image-written _ (s .pre .0 .image)) in
     let h = s .pre .1 .1 in
-    row-begun _ _ _ _ _ (s .pre .0) (h .0) (h .1) (h .2) (s .pre .1 .0 .0) (c .before .before .before .before .before .before .before .before .before .before .before .before .if1 .left) _ _ _ _
-    (c .before .before .before .before .before .before .before .before .before .fetched .ensures _ w) (shown-both (c .before .before .before .before .before .before .before .shown .ensures) _ w .0)
-    (c .before .before .before .before .lined .ensures ∙ rw (c .before .before .before .before .before .sending-line .ensures) refl) (c .before .before .settle .ensures)
+    row-begun _ _ _ _ _ (s .pre .0) (h .0) (h .1) (h .2) (s .pre .1 .0 .0) (at12 .if1 .left) _ _ _ _
+    (at9 .fetched .ensures _ w) (shown-both (at7 .shown .ensures) _ w .0)
+    (at4 .lined .ensures ∙ rw (at5 .sending-line .ensures) refl) (c .before .before .settle .ensures)
 
 pub first-sent-spec : {M : Type 1} → statement M
 first-sent-spec =

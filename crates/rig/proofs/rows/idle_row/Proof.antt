@@ -36,20 +36,25 @@ same-length c = c .before .before .before .loop .inv .2
 
 returns : tie.Need-returns Inv-loop μ-loop
 returns c =
-    let l = c .before .before .before .loop in
-    let s = c .before .before .before .before .before .before .before .before in (
+    let at3 = c .before .before .before in
+    let s = at3 .before .before .before .before .before in
+    let l = at3 .loop in (
       idle-reached _ _ _ _ (s .pre .0 .0) _ _ (l .inv .3),
       λ n k. further (λ (x : ℕ). x / 2 ≡ 1) (now (s .args .events)) (s .args .from) (l .i) (l .inv .1) k (c .if1 .taken),
     )
 
 add-answers : tie.Need-add-answers Inv-loop μ-loop
 add-answers c =
-    let p = shown-both (c .before .before .before .before .shown .ensures) _ (sym (image-written _ (c .before .before .before .before .before .before .before .before .pre .0 .0))) in
+    let at4 = c .before .before .before .before in
+    let at8 = at4 .before .before .before .before in
+    let p = shown-both (at4 .shown .ensures) _ (sym (image-written _ (at8 .pre .0 .0))) in
     omega (arith, p .1)
 
 slice-write-answers : tie.Need-slice-write-answers Inv-loop μ-loop
 slice-write-answers c =
-    omega (arith, c .before .before .before .loop .inv .2, c .before .before .loop-test .taken, c .before .before .before .before .before .before .before .before .pre .1 .1)
+    let at3 = c .before .before .before in
+    let at8 = at3 .before .before .before .before .before in
+    omega (arith, at3 .loop .inv .2, c .before .before .loop-test .taken, at8 .pre .1 .1)
 
 add-i : tie.Need-add-i Inv-loop μ-loop
 add-i c = search needs
@@ -74,8 +79,9 @@ same-length-2 c = c .before .loop .inv .2
 
 returns-2 : tie.Need-returns-2 Inv-loop μ-loop
 returns-2 c =
+    let at6 = c .before .before .before .before .before .before in
     let l = c .before .loop in
-    (idle-reached _ _ _ _ (c .before .before .before .before .before .before .pre .0 .0) _ _ (l .inv .3), λ n k. omega (arith, n, c .loop-test .left))
+    (idle-reached _ _ _ _ (at6 .pre .0 .0) _ _ (l .inv .3), λ n k. omega (arith, n, c .loop-test .left))
 
 pub idle-row-spec : {M : Type 1} → statement M
 idle-row-spec =

@@ -12,7 +12,8 @@ is-ticking-requires c κs = image-long _ (c .before .before .pre)
 
 returns : tie.Need-returns
 returns c =
-    rw (eq-eqb _ _ (c .before .if1 .taken)) (c .is-ticking .ensures _ (sym (image-written _ (c .before .before .before .pre))))
+    let at3 = c .before .before .before in
+    rw (eq-eqb _ _ (c .before .if1 .taken)) (c .is-ticking .ensures _ (sym (image-written _ (at3 .pre))))
 
 returns-2 : tie.Need-returns-2
 returns-2 c = rw (ne-eqb _ _ (c .if1 .left))

@@ -25,7 +25,8 @@ lined-requires c κs =
 
 slice-write-answers : tie.Need-slice-write-answers
 slice-write-answers c =
-    let s = c .before .before .before .before .before .before .before .before .before .before .before .before .before .before .before in
+    let at8 = c .before .before .before .before .before .before .before .before in
+    let s = at8 .before .before .before .before .before .before .before in
     omega (arith, s .pre .1 .1 .0, s .pre .1 .1 .1)
 
 add-result : tie.Need-add-result
@@ -42,9 +43,10 @@ same-length-3 c = search needs
 
 returns : tie.Need-returns
 returns c =
-    let s = c .before .before .before .before .before .before .before .before .before .before .before .before .before .before .before in
+    let at7 = c .before .before .before .before .before .before .before in
+    let s = at7 .before .before .before .before .before .before .before .before in
     let h = s .pre .1 .1 in
-    let k = c .before .before .before .before .before .before .before .clock .ensures in
+    let k = at7 .clock .ensures in
     row-clock _ _ _ _ _ (s .pre .0) (h .0) (h .1) (h .2) (s .pre .1 .0) _ _ _ _ _ k (shown-both (c .before .shown .ensures) _ (k .image) .0)
     (c .lined .ensures)
 

@@ -46,21 +46,27 @@ shared-slice-read-event c = omega (arith, c .before .loop-test .taken, c .before
 
 settle-requires : tie.Need-settle-requires Inv-loop μ-loop
 settle-requires c κs =
-    ap length (c .before .before .before .before .loop .inv .0) ∙ image-long _ (c .before .before .before .before .before .before .before .before .before .before .before .before .before .pre .0)
+    let at4 = c .before .before .before .before in
+    let at13 = at4 .before .before .before .before .before .before .before .before .before in
+    ap length (at4 .loop .inv .0) ∙ image-long _ (at13 .pre .0)
 
 same-length : tie.Need-same-length Inv-loop μ-loop
 same-length c =
-    settled-length _ _ _ _ _ (c .before .before .before .before .before .before .before .loop .inv .0) (c .before .before .settle .ensures)
+    let at7 = c .before .before .before .before .before .before .before in
+    settled-length _ _ _ _ _ (at7 .loop .inv .0) (c .before .before .settle .ensures)
 
 same-length-2 : tie.Need-same-length-2 Inv-loop μ-loop
 same-length-2 c = c .before .before .before .before .before .before .before .loop .inv .3
 
 returns : tie.Need-returns Inv-loop μ-loop
 returns c =
-    let l = c .before .before .before .before .before .before .before .loop in
-    let s = c .before .before .before .before .before .before .before .before .before .before .before .before .before .before .before .before in (
-      bits-reached _ _ _ _ (s .pre .0) _ _ _ _ _ _ (l .inv .5) (s .pre .1 .0 .0) (l .inv .0) (c .before .before .settle .ensures),
-      λ n k. further (λ (x : ℕ). x / 2 ≡ 1) (now (s .args .events)) (s .args .from) (l .i) (l .inv .1) k (c .before .before .before .before .if1 .taken),
+    let at4 = c .before .before .before .before in
+    let at7 = at4 .before .before .before in
+    let s = at7 .before .before .before .before .before .before .before .before .before in
+    let l = at7 .loop in
+    let w = c .before .before .settle .ensures in (
+      bits-reached _ _ _ _ (s .pre .0) _ _ _ _ _ _ (l .inv .5) (s .pre .1 .0 .0) (l .inv .0) w,
+      λ n k. further (λ (x : ℕ). x / 2 ≡ 1) (now (s .args .events)) (s .args .from) (l .i) (l .inv .1) k (at4 .if1 .taken),
     )
 
 push-requires : tie.Need-push-requires Inv-loop μ-loop
@@ -68,18 +74,26 @@ push-requires c κs = search needs
 
 add-answers : tie.Need-add-answers Inv-loop μ-loop
 add-answers c =
-    let p = (shown-both (c .before .before .before .before .before .before .before .before .shown .ensures) _ (sym (image-written _ (c .before .before .before .before .before .before .before .before .before .before .before .before .before .pre .0)))) in
+    let at8 = c .before .before .before .before .before .before .before .before in
+    let at13 = at8 .before .before .before .before .before in
+    let p = (shown-both (at8 .shown .ensures) _ (sym (image-written _ (at13 .pre .0)))) in
     omega (arith, p .1)
 
 slice-write-answers : tie.Need-slice-write-answers Inv-loop μ-loop
 slice-write-answers c =
-    let s = c .before .before .before .before .before .before .before .before .before .before .before .before .before in
-    omega (arith, c .before .before .before .before .loop .inv .3, c .before .before .before .loop-test .taken, c .before .before .before .before .before .row-end .ensures .1, s .pre .1 .1 .1)
+    let at3 = c .before .before .before in
+    let at4 = at3 .before in
+    let at5 = at4 .before in
+    let s = at5 .before .before .before .before .before .before .before .before in
+    omega (arith, at4 .loop .inv .3, at3 .loop-test .taken, at5 .row-end .ensures .1, s .pre .1 .1 .1)
 
 add-clocks : tie.Need-add-clocks Inv-loop μ-loop
 add-clocks c =
-    let s = c .before .before .before .before .before .before .before .before .before .before .before .before .before in
-    omega (arith, c .before .before .before .before .loop .inv .4, c .before .before .before .loop-test .taken, c .before .before .before .before .before .row-end .ensures .2, s .pre .1 .0 .2)
+    let at3 = c .before .before .before in
+    let at4 = at3 .before in
+    let at5 = at4 .before in
+    let s = at5 .before .before .before .before .before .before .before .before in
+    omega (arith, at4 .loop .inv .4, at3 .loop-test .taken, at5 .row-end .ensures .2, s .pre .1 .0 .2)
 
 add-i : tie.Need-add-i Inv-loop μ-loop
 add-i c = search needs
@@ -89,39 +103,50 @@ loop-less c = omega (arith, c .before .before .before .loop-test .taken)
 
 loop-again : tie.Need-loop-again Inv-loop μ-loop
 loop-again c =
-    let l = c .before .before .before .before .loop in
-    let s = c .before .before .before .before .before .before .before .before .before .before .before .before .before in
-    let t = c .before .before .before .loop-test .taken in
-    let e = c .before .before .before .before .before .row-end .ensures in
+    let at3 = c .before .before .before in
+    let at4 = at3 .before in
+    let at5 = at4 .before in
+    let at8 = at5 .before .before .before in
+    let s = at8 .before .before .before .before .before in
+    let l = at4 .loop in
+    let t = at3 .loop-test .taken in
+    let e = at5 .row-end .ensures in
     let n : l .i < length (now (s .args .events)) = omega (arith, t, e .1) in
     let k : l .clocks < 7 = omega (arith, l .inv .4, t, e .2, s .pre .1 .0 .2) in
-    let p = shown-both (c .before .before .before .before .before .before .before .before .shown .ensures) _ (sym (image-written _ (s .pre .0))) in (
+    let p = shown-both (at8 .shown .ensures) _ (sym (image-written _ (s .pre .0))) in (
       l .inv .0,
       omega (arith, l .inv .1),
       omega (arith, t),
       search needs,
       omega (arith, l .inv .4),
       rw (c .push .ensures)
-          (incoming-more _ _ _ _ (s .pre .0) _ _ n (s .pre .1 .1 .1) _ (p .0) _ _ (l .inv .5) (c .before .if1 .left) (s .pre .1 .0 .0) (s .pre .1 .0 .1) k),
+          (incoming-more _ _ _ _ (s .pre .0) _ _ n (s .pre .1 .1 .1) _ (p .0) _ _ (l .inv .5) (c .before .if1 .left)
+          (s .pre .1 .0 .0) (s .pre .1 .0 .1) k),
     )
 
 settle-requires-2 : tie.Need-settle-requires-2 Inv-loop μ-loop
 settle-requires-2 c κs =
-    ap length (c .before .before .loop .inv .0) ∙ image-long _ (c .before .before .before .before .before .before .before .before .before .before .before .pre .0)
+    let at11 = c .before .before .before .before .before .before .before .before .before .before .before in
+    ap length (c .before .before .loop .inv .0) ∙ image-long _ (at11 .pre .0)
 
 same-length-3 : tie.Need-same-length-3 Inv-loop μ-loop
 same-length-3 c =
-    settled-length _ _ _ _ _ (c .before .before .before .before .before .loop .inv .0) (c .before .before .settle2 .ensures)
+    let at5 = c .before .before .before .before .before in
+    settled-length _ _ _ _ _ (at5 .loop .inv .0) (c .before .before .settle2 .ensures)
 
 same-length-4 : tie.Need-same-length-4 Inv-loop μ-loop
 same-length-4 c = c .before .before .before .before .before .loop .inv .3
 
 returns-2 : tie.Need-returns-2 Inv-loop μ-loop
 returns-2 c =
-    let l = c .before .before .before .before .before .loop in
-    let s = c .before .before .before .before .before .before .before .before .before .before .before .before .before .before in (
-      bits-reached _ _ _ _ (s .pre .0) _ _ _ _ _ _ (l .inv .5) (s .pre .1 .0 .0) (l .inv .0) (c .before .before .settle2 .ensures),
-      λ n k. let f = c .before .before .before .before .before .before .row-end .ensures .3 n (omega (arith, s .pre .1 .0 .2)) in omega (arith, f, c .before .before .before .before .loop-test .left),
+    let at4 = c .before .before .before .before in
+    let at5 = at4 .before in
+    let at6 = at5 .before in
+    let s = at6 .before .before .before .before .before .before .before .before in
+    let l = at5 .loop in
+    let w = c .before .before .settle2 .ensures in (
+      bits-reached _ _ _ _ (s .pre .0) _ _ _ _ _ _ (l .inv .5) (s .pre .1 .0 .0) (l .inv .0) w,
+      λ n k. let f = at6 .row-end .ensures .3 n (omega (arith, s .pre .1 .0 .2)) in omega (arith, f, at4 .loop-test .left),
     )
 
 pub receive-row-spec : {M : Type 1} → statement M

@@ -49,10 +49,13 @@ same-length-5 c = search needs
 
 returns-2 : tie.Need-returns-2
 returns-2 c =
-    let s = c .before .before .before .before .before .before .before .before .before .before .before .before .before .before .before .before in
+    let at4 = c .before .before .before .before in
+    let at7 = at4 .before .before .before in
+    let at8 = at7 .before in
+    let s = at8 .before .before .before .before .before .before .before .before in
     let f = moves-facts (candidate (now (s .args .image))) (getD (now (s .args .events)) (s .args .from) 0)
-    (sym (c .before .before .before .before .before .before .before .before .moves .ensures) ∙ c .before .before .before .before .before .before .before .if2 .taken) in
-    let e = c .before .before .before .before .tick-row .ensures in
+    (sym (at8 .moves .ensures) ∙ at7 .if2 .taken) in
+    let e = at4 .tick-row .ensures in
     row-done _ _ _ _ _ (s .pre .0) (s .pre .1 .1) _ _ _ (e .0) (e .1 (s .pre .1 .1) (f .0))
 
 single-requires : tie.Need-single-requires

@@ -43,15 +43,18 @@ shared-slice-read-if1 c = c .before .loop-test .taken
 
 same-length : tie.Need-same-length Inv-loop μ-loop
 same-length c =
-    ap length (c .before .before .before .loop .inv .2) ∙ image-length _ ∙ sym (image-long _ (c .before .before .before .before .before .before .before .pre .0 .0))
+    let at3 = c .before .before .before in
+    let at7 = at3 .before .before .before .before in
+    ap length (at3 .loop .inv .2) ∙ image-length _ ∙ sym (image-long _ (at7 .pre .0 .0))
 
 same-length-2 : tie.Need-same-length-2 Inv-loop μ-loop
 same-length-2 c = c .before .before .before .loop .inv .4
 
 returns : tie.Need-returns Inv-loop μ-loop
 returns c =
-    let l = c .before .before .before .loop in
-    let s = c .before .before .before .before .before .before .before in (
+    let at3 = c .before .before .before in
+    let s = at3 .before .before .before .before in
+    let l = at3 .loop in (
       ticks-reached _ _ _ _ (s .pre .0 .0) _ _ _ (l .inv .5) (l .inv .2),
       λ n k. further (λ (x : ℕ). x ≡ 4) (now (s .args .events)) (s .args .from) (l .i) (l .inv .1) k (c .if1 .taken),
     )
@@ -67,14 +70,19 @@ shown-requires c κs =
 
 add-answers : tie.Need-add-answers Inv-loop μ-loop
 add-answers c =
-    let l = c .before .before .before .before .before .before .before .before .before .loop in
-    let v = c .before .before .before .before .counted .ensures _ (l .inv .2) (ticking-facts _ (l .inv .3) .valid) in
+    let at4 = c .before .before .before .before in
+    let at9 = at4 .before .before .before .before .before in
+    let l = at9 .loop in
+    let v = at4 .counted .ensures _ (l .inv .2) (ticking-facts _ (l .inv .3) .valid) in
     let p = shown-both (c .shown .ensures) _ (v .1) in
     omega (arith, p .1)
 
 slice-write-answers : tie.Need-slice-write-answers Inv-loop μ-loop
 slice-write-answers c =
-    omega (arith, c .before .before .before .before .before .before .before .before .before .loop .inv .4, c .before .before .before .before .before .before .before .before .loop-test .taken, c .before .before .before .before .before .before .before .before .before .before .before .before .before .pre .1 .1)
+    let at8 = c .before .before .before .before .before .before .before .before in
+    let at9 = at8 .before in
+    let at13 = at9 .before .before .before .before in
+    omega (arith, at9 .loop .inv .4, at8 .loop-test .taken, at13 .pre .1 .1)
 
 add-i : tie.Need-add-i Inv-loop μ-loop
 add-i c = omega (arith, c .before .before .before .before .before .before .before .before .loop-test .taken)
@@ -84,30 +92,36 @@ loop-less c = omega (arith, c .before .before .before .before .before .before .b
 
 loop-again : tie.Need-loop-again Inv-loop μ-loop
 loop-again c =
-    let l = c .before .before .before .before .before .before .before .before .before .loop in
-    let s = c .before .before .before .before .before .before .before .before .before .before .before .before .before in
-    let t = c .before .before .before .before .before .before .before .before .loop-test .taken in
-    let v = c .before .before .before .before .counted .ensures _ (l .inv .2) (ticking-facts _ (l .inv .3) .valid) in
+    let at4 = c .before .before .before .before in
+    let at6 = at4 .before .before in
+    let at8 = at6 .before .before in
+    let at9 = at8 .before in
+    let s = at9 .before .before .before .before in
+    let l = at9 .loop in
+    let t = at8 .loop-test .taken in
+    let v = at4 .counted .ensures _ (l .inv .2) (ticking-facts _ (l .inv .3) .valid) in
     let p = shown-both (c .shown .ensures) _ (v .1) in (
       omega (arith, t),
       omega (arith, l .inv .1),
       v .1 ∙ ap imageOf (sym (lies _ _ (v .1))),
       rw (lies _ _ (v .1)) (ticking-kept _ (l .inv .3)),
       search needs,
-      tick-more _ _ _ _ (s .pre .0 .0) _ _ _ _ _ (l .inv .5) t (s .pre .1 .1) (l .inv .3) (v .1) (c .before .before .before .before .before .before .if1 .left) (p .0),
+      tick-more _ _ _ _ (s .pre .0 .0) _ _ _ _ _ (l .inv .5) t (s .pre .1 .1) (l .inv .3) (v .1) (at6 .if1 .left) (p .0),
     )
 
 same-length-3 : tie.Need-same-length-3 Inv-loop μ-loop
 same-length-3 c =
-    ap length (c .before .loop .inv .2) ∙ image-length _ ∙ sym (image-long _ (c .before .before .before .before .before .pre .0 .0))
+    let at5 = c .before .before .before .before .before in
+    ap length (c .before .loop .inv .2) ∙ image-length _ ∙ sym (image-long _ (at5 .pre .0 .0))
 
 same-length-4 : tie.Need-same-length-4 Inv-loop μ-loop
 same-length-4 c = c .before .loop .inv .4
 
 returns-2 : tie.Need-returns-2 Inv-loop μ-loop
 returns-2 c =
+    let at5 = c .before .before .before .before .before in
     let l = c .before .loop in (
-      ticks-reached _ _ _ _ (c .before .before .before .before .before .pre .0 .0) _ _ _ (l .inv .5) (l .inv .2),
+      ticks-reached _ _ _ _ (at5 .pre .0 .0) _ _ _ (l .inv .5) (l .inv .2),
       λ n k. omega (arith, n, c .loop-test .left),
     )
 

@@ -6,7 +6,7 @@ use Prim.Native.Nat.{ℕ}
 use mathlib.Core.List.{List}
 use denote.Ref.{now}
 use lib.Seq.{sets}
-use Rattle.rig.specs.Image.{calendarBytes}
+use Rattle.image.specs.Image.{calendarBytes}
 use Rattle.sleep.proofs.Written.{counted-kept, counted-followed}
 use borrow.Author.Needs.{needs}
 use Rattle.sleep.proofs.bytes.count.Statement.{statement}
