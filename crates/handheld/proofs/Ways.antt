@@ -11,7 +11,7 @@ use borrow.Author.Tests.{eq-eqb, ne-eqb}
 use Rattle.device.specs.Numbers.{accepted, wrongMemory, wrongState, unknownEvent, shortAnswers, notHeld}
 use Rattle.device.specs.Chip.{memorySize}
 use Rattle.device.specs.declared.State.{State}
-use Rattle.image.specs.Image.{imageOf, decodeOf}
+use Rattle.image.specs.Image.{decodeOf}
 use Rattle.rig.specs.Run.{RanThrough, allKnown, outcomeWith, outcomeOf}
 use Rattle.rig.specs.declared.Ran.{Ran}
 use Rattle.image.specs.declared.Decoded.the-variants.{Good, Bad}
@@ -72,12 +72,12 @@ module _ (b : List ℕ) (x : ℕ) (i m es a : List ℕ) where
             call-short-answers l = call-ran ∙ rw (outcome-short-answers i m es a h s d k l) refl
 
             -- every event was done, and the bus is as the events leave it
-            pub call-done : (t : State) (i′ m′ a′ b′ : List ℕ) → length es ≤ length a → RanThrough s m es a t m′ a′
-                → i′ ≡ imageOf t → b′ ≡ busAfter accepted es b
+            pub call-done : (i′ m′ a′ b′ : List ℕ) → length es ≤ length a → RanThrough s m es a i′ m′ a′
+                → b′ ≡ busAfter accepted es b
                 → record { run = outcomeWith (record { number = accepted; count = length es }) i′ m′ a′; bus = b′ }
                 ≡ callOf b x i m es a
-            call-done t i′ m′ a′ b′ l r e z =
-                let o = outcome-done i m es a h s d t i′ m′ a′ k l r e in
+            call-done i′ m′ a′ b′ l r z =
+                let o = outcome-done i m es a h s d i′ m′ a′ k l r in
                 let n : outcomeOf i m es a .number ≡ accepted = rw (outcome-written i m es a h s d k l) refl in
                 rw (z, o) (sym (call-ran ∙ rw n refl))
 

@@ -15,10 +15,8 @@ use holding::bus::master_number;
 use holding::bus::may_ask;
 use holding::bus::may_call;
 use holding::bus::standing;
-use image::Decoded;
 use image::MEMORY;
-use image::read::decode;
-use image::write::write_image;
+use image::accept::is_image;
 use rig::Ran;
 use rig::run::all_known;
 use rig::run::refuse;
@@ -60,9 +58,9 @@ pub extern "C" fn fm3130_call(
     if memory.len() != MEMORY {
         return refuse(WRONG_MEMORY);
     }
-    let Decoded::Good(state) = decode(image) else {
+    if !is_image(image) {
         return refuse(WRONG_STATE);
-    };
+    }
     let Standing::Known {
         holder,
         master: caller,
@@ -79,8 +77,7 @@ pub extern "C" fn fm3130_call(
     if answers.len() < events.len() {
         return refuse(SHORT_ANSWERS);
     }
-    let last = run_events(state, memory, events, answers);
-    write_image(last, image);
+    run_events(image, memory, events, answers);
     free_after(events, bus);
     Ran {
         number: ACCEPTED as u64,

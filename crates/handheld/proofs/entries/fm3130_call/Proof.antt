@@ -1,5 +1,5 @@
 -- SPDX-License-Identifier: Apache-2.0
--- The tests in the order of the numbers, each way by its law; and the run, after which image and bus are written.
+-- The tests in the order of the numbers, each way by its law; and the run, over the image where it lies, after which the bus is written.
 -- Assumes nothing.
 use mathlib.Core.Bool.{true}
 use mathlib.Core.Path.{_≡_, sym, _∙_}
@@ -8,10 +8,9 @@ use lib.ListN.{length}
 use borrow.Author.Needs.{needs}
 use borrow.Author.Tests.{not-true, not-false}
 use Rattle.device.specs.Chip.{memorySize}
-use Rattle.image.specs.declared.Decoded.the-variants.{Good}
+use Rattle.image.specs.Accepting.{isImage}
+use Rattle.image.proofs.Accepts.{image-read, image-not-read}
 use Rattle.rig.specs.Run.{allKnown}
-use Rattle.image.specs.Image.{decodeOf}
-use Rattle.image.proofs.Images.{settled-decode, image-decode, decoded-length}
 use Rattle.holding.specs.declared.Standing.the-variants.{Known}
 use Rattle.holding.specs.Bus.{mayCall, standingOf}
 use Rattle.holding.proofs.Known.{one-byte}
@@ -20,36 +19,36 @@ use Rattle.handheld.proofs.Ways.{call-not-held, call-short-answers, cal
 use Rattle.handheld.proofs.entries.fm3130_call.Statement.{statement}
 use Rattle.handheld.proofs.entries.fm3130_call.Tie as tie
 
--- where a state was read: the image is that state's, and the memory has its length
-abbrev start : tie.After-state → tie.Start
-start c = c .before .before .before .before .before .before .before .before .before .before
+-- where the image is accepted, and the memory has its length
+abbrev start : tie.Else2 → tie.Start
+start c = c .before .before .before .before .before .before .before .before .before
 
-read : (c : tie.After-state) → decodeOf (now (start c .args .image)) ≡ Good (c .state .given .0 .0)
-read c = settled-decode _ _ (c .before .before .decode .ensures) ∙ c .state .given .1
+image : (c : tie.Else2) → isImage (now (start c .args .image)) ≡ true
+image c = sym (c .before .is-image .ensures) ∙ not-false _ (c .if2 .left)
 
-long : (c : tie.After-state) → length (now (start c .args .memory)) ≡ memorySize
-long c = c .before .before .before .before .if1 .left
+long : (c : tie.Else2) → length (now (start c .args .memory)) ≡ memorySize
+long c = c .before .before .before .if1 .left
 
 -- where bus byte and master were read
-abbrev state : tie.After-holder → tie.After-state
-state c = c .before .before .before .before .before
+abbrev accepted : tie.After-holder → tie.Else2
+accepted c = c .before .before .before .before
 
 stood : (c : tie.After-holder)
-    → standingOf (now (start (state c) .args .bus)) (start (state c) .args .master)
+    → standingOf (now (start (accepted c) .args .bus)) (start (accepted c) .args .master)
     ≡ Known (c .holder .given .0 .0) (c .holder .given .0 .1 .0)
 stood c = sym (c .before .before .standing .ensures) ∙ c .holder .given .1
 
 -- where all events are known
-known : (c : tie.Else2) → allKnown (now (start (state (c .before .before .before)) .args .events)) ≡ true
-known c = sym (c .before .all-known .ensures) ∙ not-false _ (c .if2 .left)
+known : (c : tie.Else3) → allKnown (now (start (accepted (c .before .before .before)) .args .events)) ≡ true
+known c = sym (c .before .all-known .ensures) ∙ not-false _ (c .if3 .left)
 
 -- where the master may do them
-abbrev holder : tie.Else3 → tie.After-holder
+abbrev holder : tie.Else4 → tie.After-holder
 holder c = c .before .before .before .before .before
 
-may : (c : tie.Else3)
-    → mayCall (holder c .holder .given .0 .0) (holder c .holder .given .0 .1 .0) (now (start (state (holder c)) .args .events)) ≡ true
-may c = sym (c .before .may-call .ensures) ∙ not-false _ (c .if3 .left)
+may : (c : tie.Else4)
+    → mayCall (holder c .holder .given .0 .0) (holder c .holder .given .0 .1 .0) (now (start (accepted (holder c)) .args .events)) ≡ true
+may c = sym (c .before .may-call .ensures) ∙ not-false _ (c .if4 .left)
 
 refuse-requires : tie.Need-refuse-requires
 refuse-requires c κs = search needs
@@ -57,14 +56,8 @@ refuse-requires c κs = search needs
 returns : tie.Need-returns
 returns c = rw (c .refuse .ensures) (sym (call-wrong-memory _ _ _ _ _ _ (c .before .if1 .taken)))
 
-decode-requires : tie.Need-decode-requires
-decode-requires c κs = search needs
-
-enum-known-state : tie.Need-enum-known-state
-enum-known-state c = search needs
-
-enum-told : tie.Need-enum-told
-enum-told c = search needs
+is-image-requires : tie.Need-is-image-requires
+is-image-requires c κs = search needs
 
 refuse-requires-2 : tie.Need-refuse-requires-2
 refuse-requires-2 c κs = search needs
@@ -74,9 +67,8 @@ same-length c = search needs
 
 returns-2 : tie.Need-returns-2
 returns-2 c =
-    let d = c .before .before .before in
-    let b = settled-decode _ _ (d .decode .ensures) ∙ c .before .enum-told .given .1 in
-    rw (c .refuse2 .ensures) (sym (call-wrong-image _ _ _ _ _ _ (d .before .before .if1 .left) b))
+    let b = image-not-read _ (sym (c .before .before .is-image .ensures) ∙ not-true _ (c .before .if2 .taken)) in
+    rw (c .refuse2 .ensures) (sym (call-wrong-image _ _ _ _ _ _ (c .before .before .before .before .if1 .left) b))
 
 standing-requires : tie.Need-standing-requires
 standing-requires c κs = search needs
@@ -84,8 +76,8 @@ standing-requires c κs = search needs
 enum-known-holder : tie.Need-enum-known-holder
 enum-known-holder c = search needs
 
-enum-told-2 : tie.Need-enum-told-2
-enum-told-2 c = search needs
+enum-told : tie.Need-enum-told
+enum-told c = search needs
 
 refuse-requires-3 : tie.Need-refuse-requires-3
 refuse-requires-3 c κs = search needs
@@ -99,9 +91,9 @@ same-length-3 c = search needs
 returns-3 : tie.Need-returns-3
 returns-3 c =
     let d = c .before .before .before in
-    let s = d .before .before .before in
-    let q = sym (d .standing .ensures) ∙ c .before .enum-told2 .given .1 in
-    rw (c .refuse3 .ensures) (sym (call-unknown _ _ _ _ _ _ (long s) _ (read s) q))
+    let s = d .before .before in
+    let q = sym (d .standing .ensures) ∙ c .before .enum-told .given .1 in
+    rw (c .refuse3 .ensures) (sym (call-unknown _ _ _ _ _ _ (long s) _ (image-read _ (image s)) q))
 
 all-known-requires : tie.Need-all-known-requires
 all-known-requires c κs = search needs
@@ -118,9 +110,9 @@ same-length-5 c = search needs
 returns-4 : tie.Need-returns-4
 returns-4 c =
     let h = c .before .before .before .before in
-    let s = state h in
-    let k = sym (c .before .before .all-known .ensures) ∙ not-true _ (c .before .if2 .taken) in
-    rw (c .refuse4 .ensures) (sym (call-unknown-event _ _ _ _ _ _ (long s) _ (read s) _ _ (stood h) k))
+    let s = accepted h in
+    let k = sym (c .before .before .all-known .ensures) ∙ not-true _ (c .before .if3 .taken) in
+    rw (c .refuse4 .ensures) (sym (call-unknown-event _ _ _ _ _ _ (long s) _ (image-read _ (image s)) _ _ (stood h) k))
 
 may-call-requires : tie.Need-may-call-requires
 may-call-requires c κs = search needs
@@ -138,9 +130,10 @@ returns-5 : tie.Need-returns-5
 returns-5 c =
     let e = c .before .before .before in
     let h = e .before .before .before in
-    let s = state h in
-    let m = sym (c .before .before .may-call .ensures) ∙ not-true _ (c .before .if3 .taken) in
-    rw (c .refuse5 .ensures) (sym (call-not-held _ _ _ _ _ _ (long s) _ (read s) _ _ (stood h) (known e) m))
+    let s = accepted h in
+    let m = sym (c .before .before .may-call .ensures) ∙ not-true _ (c .before .if4 .taken) in
+    rw (c .refuse5 .ensures)
+    (sym (call-not-held _ _ _ _ _ _ (long s) _ (image-read _ (image s)) _ _ (stood h) (known e) m))
 
 refuse-requires-6 : tie.Need-refuse-requires-6
 refuse-requires-6 c κs = search needs
@@ -155,29 +148,25 @@ returns-6 : tie.Need-returns-6
 returns-6 c =
     let t = c .before .before in
     let h = holder t in
-    let s = state h in
+    let s = accepted h in
     rw (c .refuse6 .ensures)
-    (sym (call-short-answers _ _ _ _ _ _ (long s) _ (read s) _ _ (stood h) (known (t .before .before)) (may t)
-    (c .before .if4 .taken)))
+    (sym (call-short-answers _ _ _ _ _ _ (long s) _ (image-read _ (image s)) _ _ (stood h) (known (t .before .before)) (may t)
+    (c .before .if5 .taken)))
 
 run-events-requires : tie.Need-run-events-requires
 run-events-requires c κs =
-    let t = c .before .before .before in
-    let s = state (holder t) in
-    ((image-decode _ _ (read s) .0, long s), (known (t .before .before), c .before .before .if4 .left))
-
-write-image-requires : tie.Need-write-image-requires
-write-image-requires c κs =
-    let t = c .before .before .before .before .before .before .before .before in
-    decoded-length _ _ (read (state (holder (t .before))))
+    let f = c .before .before .before in
+    let t = f .before in
+    let s = accepted (holder t) in
+    (record { image = image s; memory = long s }, (known (t .before .before), f .if5 .left))
 
 free-after-requires : tie.Need-free-after-requires
 free-after-requires c κs =
     let t = c .before .before .before .before .before .before .before .before .before .before .before .before in
-    one-byte _ _ _ _ (stood (holder (t .before)))
+    one-byte _ _ _ _ (stood (holder t))
 
-cast-t30 : tie.Need-cast-t30
-cast-t30 c = search needs
+cast-t27 : tie.Need-cast-t27
+cast-t27 c = search needs
 
 same-length-10 : tie.Need-same-length-10
 same-length-10 c = search needs
@@ -193,14 +182,13 @@ same-length-13 c = search needs
 
 returns-7 : tie.Need-returns-7
 returns-7 c =
-    let w = c .before .before .before .before .before .before in
-    let r = w .before .before .before .before .before .before in
-    let f = r .before .before .before in
+    let r = c .before .before .before .before .before .before .before .before .before .before in
+    let f = r .before .before .before .before in
     let t = f .before in
     let h = holder t in
-    let s = state h in
-    call-done _ _ _ _ _ _ (long s) _ (read s) _ _ (stood h) (known (t .before .before)) (may t) _ _ _ _ _ (f .if4 .left)
-    (r .run-events .ensures) (w .write-image .ensures) (c .before .before .free-after .ensures)
+    let s = accepted h in
+    call-done _ _ _ _ _ _ (long s) _ (image-read _ (image s)) _ _ (stood h) (known (t .before .before)) (may t) _ _ _ _
+    (f .if5 .left) (r .run-events .ensures) (c .before .before .free-after .ensures)
 
 pub fm3130-call-spec : {M : Type 1} → statement M
 fm3130-call-spec =
@@ -208,15 +196,13 @@ fm3130-call-spec =
     (tie.spec
     refuse-requires
     returns
-    decode-requires
-    enum-known-state
-    enum-told
+    is-image-requires
     refuse-requires-2
     same-length
     returns-2
     standing-requires
     enum-known-holder
-    enum-told-2
+    enum-told
     refuse-requires-3
     same-length-2
     same-length-3
@@ -236,9 +222,8 @@ fm3130-call-spec =
     same-length-9
     returns-6
     run-events-requires
-    write-image-requires
     free-after-requires
-    cast-t30
+    cast-t27
     same-length-10
     same-length-11
     same-length-12
