@@ -81,4 +81,4 @@ module _ (i m es a b : List ℕ) where
             → r ≡ reportOf (t .proving)
             → seen (record { number = accepted; report = r }) i′ m′ a′ b′ ≡ outcomeOf i m es a b
         all-done t i′ m′ a′ b′ r k l w e f g =
-            rw (e, f, g, w .ran .state, w .ran .memory, w .ran .answers, w .proving) (sym (all-written k l))
+            rw (e, f, g, w .ran .image, w .ran .memory, w .ran .answers, w .proving) (sym (all-written k l))

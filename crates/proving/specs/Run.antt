@@ -70,5 +70,5 @@ LampsSettled i m es a b r i′ m′ a′ b′ = seen r i′ m′ a′ b′ ≡ o
 
 -- Auxiliary: what the loop returns and leaves.
 pub record RanWith (s : State) (p : Proving) (m es a : List ℕ) (r : Reached) (m′ a′ : List ℕ) : Type 0 where
-  pub ran : RanThrough s m es a (r .state) m′ a′
+  pub ran : RanThrough s m es a (imageOf (r .state)) m′ a′
   pub proving : r .proving ≡ provenBy p s m es

@@ -63,6 +63,10 @@ leaves n i r = r ≡ leftOf n (getD i 0 0) (alarmAt i) (calendarAt i 15)
 abbrev pub holds : List ℕ → Bool
 holds i = has (getD i 0 0) W || has (getD i 0 0) R
 
+-- the code's two tests are those of the definition
+pub held : {a b x y t : Bool} → a ≡ x → b ≡ y → a || b ≡ t → x || y ≡ t
+held p q e = (λ i. sym p i || sym q i) ∙ e
+
 module _ (s : State) (n : ℕ) where
   abbrev reached : List ℕ
   reached = imageOf (withCompanion s (caughtOf n (s .companion)))

@@ -2,7 +2,7 @@
 -- `proving::run::follow_events` meets its contract.
 use Prim.Native.Nat.{_≤_, _<_, _-_}
 use native.Mathlib.Omega.{arith}
-use mathlib.Core.Path.{_≡_, sym, _∙_}
+use mathlib.Core.Path.{_≡_, refl, sym, _∙_}
 use mathlib.Core.Bool.{true}
 use denote.Ref.{now}
 use lib.ListN.{length, take, drop, getD, length-set}
@@ -11,6 +11,7 @@ use Rattle.device.specs.Chip.{memorySize}
 use Rattle.device.specs.Limits.{wellFormed}
 use Rattle.device.proofs.Entry.{ready}
 use Rattle.device.proofs.Wellformed.{event-ok}
+use Rattle.image.specs.Image.{imageOf}
 use Rattle.rig.specs.Run.{following, runOf}
 use Rattle.rig.proofs.Runs.{known-at, run-more, run-done, rest-kept}
 use Rattle.lamps.specs.Statement.{provenBy}
@@ -87,7 +88,8 @@ returns c =
     record {
       ran =
           run-done (s .args .state) (l .at) (now (s .args .memory)) (l .memory) (now (s .args .events))
-          (now (s .args .answers)) (l .answers) (l .i) (l .inv .0) (c .loop-test .left) (l .inv .4) (l .inv .5);
+          (now (s .args .answers)) (l .answers) (l .i) (l .inv .0) (c .loop-test .left) (l .inv .4) (l .inv .5)
+          (imageOf (l .at)) refl;
       proving =
           sym (proven-end (l .kept) (l .at) (l .memory) (now (s .args .events)) (l .i) (c .loop-test .left)) ∙ l .inv .6;
     }

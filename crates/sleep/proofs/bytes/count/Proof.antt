@@ -7,7 +7,7 @@ use mathlib.Core.List.{List}
 use denote.Ref.{now}
 use lib.Seq.{sets}
 use Rattle.image.specs.Image.{calendarBytes}
-use Rattle.sleep.proofs.Written.{counted-kept, counted-followed}
+use Rattle.sleep.proofs.Written.{held, counted-kept, counted-followed}
 use borrow.Author.Needs.{needs}
 use Rattle.sleep.proofs.bytes.count.Statement.{statement}
 use Rattle.sleep.proofs.bytes.count.Tie as tie
@@ -45,7 +45,7 @@ returns c s e =
     wrote .write-left .ensures
     ∙ counted-kept s (start .args .n) (now (start .args .image)) e (counted .counted .result)
     (rw (read .before .before .alarm-at .ensures, read .calendar-at .ensures) at (counted .counted .ensures))
-    (rw (← c .before .before .has .ensures, ← c .before .has2 .ensures, c .if1 .taken))
+    (held (c .before .before .has .ensures) (c .before .has2 .ensures) (c .if1 .taken))
 
 write-time-requires : tie.Need-write-time-requires
 write-time-requires c κs = search needs
@@ -65,7 +65,7 @@ returns-2 c s e =
     ∙ ap (λ (i : List ℕ). sets i 2 (calendarBytes (counted .counted .result .core))) (wrote .write-left .ensures)
     ∙ counted-followed s (start .args .n) (now (start .args .image)) e (counted .counted .result)
     (rw (read .before .before .alarm-at .ensures, read .calendar-at .ensures) at (counted .counted .ensures))
-    (rw (← test .before .before .has .ensures, ← test .before .has2 .ensures, test .if1 .left))
+    (held (test .before .before .has .ensures) (test .before .has2 .ensures) (test .if1 .left))
 
 pub count-spec : {M : Type 1} → statement M
 count-spec =

@@ -2,6 +2,7 @@
 -- `sleep::ticks::advanced` meets its contract. 00h and the core as the calls give them.
 -- Assumes nothing.
 use mathlib.Core.Path.{sym, subst}
+use native.Mathlib.Omega.{arith}
 use Rattle.calendar.specs.Next.{isValid}
 use Rattle.calendar.proofs.Tests.{test-true}
 use Rattle.days.specs.Places.{Standing}
@@ -20,7 +21,9 @@ ahead-requires c κs = (c .before .pre .0, c .standing .ensures, c .before .pre 
 rings-within-requires : tie.Need-rings-within-requires
 rings-within-requires c κs =
     let s = c .before .before .before in
-    (subst Standing (sym (c .before .before .standing .ensures)) (stands _ (s .pre .0)), s .pre .1, s .pre .2)
+    let l = s .pre .1 in
+    let m = s .pre .2 in
+    (subst Standing (sym (c .before .before .standing .ensures)) (stands _ (s .pre .0)), omega arith, omega arith)
 
 told-requires : tie.Need-told-requires
 told-requires c κs = search needs
