@@ -81,3 +81,30 @@ void __aeabi_memset(void *to, size_t length, int byte) {
     memset(to, byte, length);
 }
 #endif
+
+#if defined __arm__ && !defined __ARM_FEATURE_IDIV
+/* Division, on a core that has no instruction for it: the quotient in the low word of what is returned, the remainder in
+ * the high one. By 0 both are 0 and the dividend; the archive divides by constants alone. */
+uint64_t __aeabi_uidivmod(uint32_t dividend, uint32_t divisor);
+uint32_t __aeabi_uidiv(uint32_t dividend, uint32_t divisor);
+
+uint64_t __aeabi_uidivmod(uint32_t dividend, uint32_t divisor) {
+    uint32_t quotient = 0;
+    uint32_t bit = divisor != 0;
+    while (bit != 0 && divisor < dividend && divisor >> 31 == 0) {
+        divisor <<= 1;
+        bit <<= 1;
+    }
+    for (; bit != 0; bit >>= 1, divisor >>= 1) {
+        if (dividend >= divisor) {
+            dividend -= divisor;
+            quotient |= bit;
+        }
+    }
+    return (uint64_t)dividend << 32 | quotient;
+}
+
+uint32_t __aeabi_uidiv(uint32_t dividend, uint32_t divisor) {
+    return (uint32_t)__aeabi_uidivmod(dividend, divisor);
+}
+#endif
