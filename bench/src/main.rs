@@ -36,7 +36,9 @@ fn main() {
         [option, list, side] if option == "--count" => run_for_valgrind(list, side),
         [option, event, side] if option == "--count-one" => run_one_for_valgrind(event, side),
         _ => {
-            eprintln!("usage: bench [--sleep | --hold FILE | --count LIST SIDE | --count-one EVENT SIDE]");
+            eprintln!(
+                "usage: bench [--sleep | --hold FILE | --count LIST SIDE | --count-one EVENT SIDE]"
+            );
             std::process::exit(2);
         }
     }
