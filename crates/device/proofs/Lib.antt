@@ -3,4 +3,3 @@ pub mod Cases
 pub mod Entry
 pub mod Wellformed
 pub mod Valid
-pub mod OnBus
