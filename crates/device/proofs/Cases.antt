@@ -1,6 +1,6 @@
 -- SPDX-License-Identifier: Apache-2.0
--- A clock's outcome by the phase that the state is in, and an event's by its supply. Each law turns the case that a `match`
--- found into the definition at the matched value.
+-- An event by what is known of it: a Clock outside a transfer, the event bytes of a Clock and of the return of main power, a
+-- tick with a supply and without, an event that is no tick.
 -- Assumes nothing.
 use Prim.Native.Nat.{ℕ, _/_, _≤_}
 use mathlib.Core.Path.{_≡_, refl, sym, _∙_}
@@ -8,7 +8,7 @@ use mathlib.Core.Bool.{Bool, true, false, true≢false, false≢true}
 use mathlib.Core.List.{List}
 use native.Mathlib.Omega.{arith}
 use lib.Dec.{eqb}
-use borrow.Author.Tests.{eqb-true, eqb-false, ne-eqb}
+use borrow.Author.Tests.{eqb-true, eqb-false}
 use Rattle.weights.proofs.Cases.{by-cond}
 use Rattle.wire.specs.Memory.{Cells, lent}
 use Rattle.wire.specs.Machine.{clock, out, clocked}
@@ -18,28 +18,11 @@ use Rattle.calendar.specs.declared.Rolled.the-variants.{Nothing}
 use Rattle.bus.specs.declared.Power.{Power}
 use Rattle.bus.specs.declared.Power.the-variants.{On, Backup, Off}
 use Rattle.companion.specs.declared.Companion.{Companion}
-use Rattle.device.specs.Chip.{fm3130, Done}
+use Rattle.device.specs.Chip.{fm3130}
 use Rattle.device.specs.Bus.{clockedWith}
 use Rattle.device.specs.Power.{isSupplied}
-use Rattle.device.specs.Event.{Happening, onWire, second, returned, happening, still, ticked, eventOn, eventOf, rolledBy, rolledIn}
-use Rattle.device.specs.Answer.{answerByte}
-use Rattle.device.specs.Step.{HappenedWith, Stills, PassedWith, AnsweredWith, ToldWith}
+use Rattle.device.specs.Event.{Happening, onWire, second, returned, happening, still, unheard, ticked, eventOn, rolledBy, rolledIn}
 use Rattle.device.specs.declared.State.{State}
-use Rattle.device.specs.declared.Happened.{Happened}
-use Rattle.device.specs.declared.Passed.{Passed}
-use Rattle.device.specs.declared.Answered.{Answered}
-
-pub at-phase : (s : State) (m : List ℕ) (high : Bool) {r : Happened} {m′ : List ℕ} {p q : Phase} → p ≡ q
-    → HappenedWith r m′ (clockedWith s m q high) → HappenedWith r m′ (clockedWith s m p high)
-at-phase s m high e t = rw e t
-
-pub at-power : (s : State) (m : List ℕ) (x : Happening) {r : Happened} {m′ : List ℕ} {p q : Power} → p ≡ q
-    → HappenedWith r m′ (eventOn q x s m) → HappenedWith r m′ (eventOn p x s m)
-at-power s m x e t = rw e t
-
-pub still-at-power : (s r : State) (x : Happening) {p q : Power} → p ≡ q
-    → Stills r (λ m. eventOn q x s m) → Stills r (λ m. eventOn p x s m)
-still-at-power s r x e t m = rw e (t m)
 
 -- a Clock outside a transfer leaves the state as it is
 idle-clocked : (p : Phase) (m : Cells) (c : Companion) (d : Bool) → p ≡ Idle → clocked fm3130 p m c d ≡ out fm3130 p m c d
@@ -47,8 +30,8 @@ unfolding clocked
 idle-clocked p m c d e = rw e
 
 pub idle-clock : (s : State) (m : List ℕ) (high : Bool) → s .phase ≡ Idle
-    → HappenedWith (record { state = s; line = high }) m (clockedWith s m (s .phase) high)
-idle-clock s m high e = rw (idle-clocked (s .phase) (lent m (s .address)) (s .companion) high e) (record { result = refl; memory = refl })
+    → unheard s m (clock high) ≡ clockedWith s m (s .phase) high
+idle-clock s m high e = rw (idle-clocked (s .phase) (lent m (s .address)) (s .companion) high e)
 
 -- an event byte of 2 or 3 is a Clock, with the master's line high at 3
 clock-by : (e : ℕ) (t : Bool) → eqb e 3 ≡ t → e / 2 ≡ 1 → happening e ≡ onWire (clock t)
@@ -97,21 +80,3 @@ no-tick s e h =
     (λ q. by-cond Q (eqb e 3) (λ q. refl)
     (λ q. by-cond Q (eqb e 4) (λ q. absurd (true≢false (sym q ∙ h)))
     (λ q. by-cond Q (eqb e 5) (λ q. refl) (λ q. by-cond Q (eqb e 6) (λ q. refl) (λ q. refl)))))))
-
--- what is told of a tick, and of another event
-pub told-tick : (s : State) (m : List ℕ) (r : Passed) (e a : ℕ) → e ≡ 4
-    → PassedWith r (λ n. eventOn (s .power) second s n) (rolledBy second s) → a ≡ answerByte (r .state) true
-    → ToldWith (record { state = r .state; answer = a; rolled = r .rolled }) m (eventOf s m e) (rolledIn s e)
-unfolding happening
-told-tick s m r e a q p h =
-    rw (q, p .state m, h) (record { result = λ i. record { state = r .state; answer = answerByte (r .state) true; rolled = p .rolled i }; memory = refl })
-
-pub told-other : (s : State) (m : List ℕ) (r : Answered) (m′ : List ℕ) (e : ℕ) → (e ≡ 4 → ⊥)
-    → AnsweredWith r m′ (eventOf s m e)
-    → ToldWith (record { state = r .state; answer = r .answer; rolled = Nothing }) m′ (eventOf s m e) (rolledIn s e)
-told-other s m r m′ e n p =
-    let w = no-tick s e (ne-eqb e 4 n) in
-    record {
-      result = λ i. record { state = p .result i .state; answer = p .result i .answer; rolled = sym w i };
-      memory = p .memory;
-    }

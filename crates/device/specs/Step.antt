@@ -1,13 +1,13 @@
 -- SPDX-License-Identifier: Apache-2.0
 -- The entry for one event, refusals too (01, Entries and refusal numbers). `StepSettled` is its whole outcome.
 --   Ready                                what an event asks of state and memory
---   HappenedWith, AnsweredWith, Stills, PassedWith   what the functions below the entry return and leave
+--   AnsweredWith, ToldWith               what the functions below the entry return and leave
 --   refused, answered, stepOf            what the entry returns and leaves
 --   StepSettled                          the entry's contract
 -- Assumes nothing.
 use Prim.Native.Nat.{ℕ, _<_, _≤_}
 use mathlib.Core.Path.{_≡_}
-use mathlib.Core.Bool.{Bool, cond}
+use mathlib.Core.Bool.{cond}
 use mathlib.Core.List.{List}
 use lib.Dec.{eqb, ltb}
 use lib.ListN.{length}
@@ -16,12 +16,10 @@ use Rattle.device.specs.Numbers.{accepted, wrongMemory, wrongState, unkn
 use Rattle.device.specs.Chip.{memorySize, Done}
 use Rattle.calendar.specs.declared.Rolled.{Rolled}
 use Rattle.calendar.specs.declared.Rolled.the-variants.{Nothing}
-use Rattle.device.specs.Event.{still, eventOf, rolledIn}
+use Rattle.device.specs.Event.{eventOf, rolledIn}
 use Rattle.device.specs.Answer.{answerByte}
 use Rattle.device.specs.Limits.{wellFormed}
 use Rattle.device.specs.declared.State.{State}
-use Rattle.device.specs.declared.Happened.{Happened}
-use Rattle.device.specs.declared.Passed.{Passed}
 use Rattle.device.specs.declared.Answered.{Answered}
 use Rattle.device.specs.declared.Told.{Told}
 use Rattle.device.specs.declared.Stepped.{Stepped}
@@ -33,10 +31,6 @@ pub record Ready (s : State) (m : List ℕ) : Type 0 where
   pub desk : s .companion .address ≤ LAST
 
 -- Auxiliary: what a function returns, and the memory it leaves, are those of an event.
-pub record HappenedWith (r : Happened) (m : List ℕ) (d : Done) : Type 0 where
-  pub result : r ≡ record { state = d .state; line = d .line }
-  pub memory : m ≡ d .memory
-
 pub record AnsweredWith (r : Answered) (m : List ℕ) (d : Done) : Type 0 where
   pub result : r ≡ record { state = d .state; answer = answerByte (d .state) (d .line) }
   pub memory : m ≡ d .memory
@@ -45,15 +39,6 @@ pub record AnsweredWith (r : Answered) (m : List ℕ) (d : Done) : Type 0 where
 pub record ToldWith (r : Told) (m : List ℕ) (d : Done) (w : Rolled) : Type 0 where
   pub result : r ≡ record { state = d .state; answer = answerByte (d .state) (d .line); rolled = w }
   pub memory : m ≡ d .memory
-
--- Auxiliary: an event that touches no memory and leaves the line high, told by the state it leaves.
-abbrev pub Stills : State → (List ℕ → Done) → Type 0
-Stills r event = (m : List ℕ) → event m ≡ still r m
-
--- Auxiliary: the same, with the field of the calendar that the event says.
-pub record PassedWith (r : Passed) (event : List ℕ → Done) (w : Rolled) : Type 0 where
-  pub state : Stills (r .state) event
-  pub rolled : r .rolled ≡ w
 
 -- What the entry returns, and the memory it leaves.
 pub record Step : Type 0 where

@@ -1,13 +1,15 @@
 // SPDX-License-Identifier: Apache-2.0
 // One event byte on a state and the lent memory, and the entry that refuses what 01's table refuses.
 ghost use mathlib.Core.Path.{_≡_};
-ghost use Prim.Native.Nat.{_≤_, _/_};
+ghost use Prim.Native.Nat.{_≤_};
+ghost use Rattle.device.specs.Power.{fresh};
 ghost use Rattle.device.specs.Event.{eventOf, rolledIn};
-ghost use Rattle.device.specs.Step.{Ready, Stills, HappenedWith, AnsweredWith, ToldWith};
+ghost use Rattle.device.specs.OnBus.{busOf, stateWith};
+ghost use Rattle.device.specs.Step.{Ready, AnsweredWith, ToldWith};
 ghost use Rattle.device.specs.Step.{refusal, acceptance, StepSettled};
 use crate::Answered;
-use crate::Happened;
 use crate::MEMORY_SIZE;
+use crate::NO_SELECT;
 use crate::State;
 use crate::Stepped;
 use crate::Told;
@@ -15,7 +17,11 @@ use crate::numbers::ACCEPTED;
 use crate::numbers::UNKNOWN_EVENT;
 use crate::numbers::WRONG_MEMORY;
 use crate::numbers::WRONG_STATE;
+use crate::serve::serve;
+use bus::Bus;
+use bus::Power;
 use calendar::Rolled;
+use companion::Companion;
 
 // What the entry returns of a refused event: its state unchanged with answer byte 1, and no field of the calendar.
 fn refused(number: u8, state: State) -> Stepped
@@ -42,73 +48,75 @@ fn accepted(state: State, answer: u8, rolled: Rolled) -> Stepped
 }
 
 impl State {
-    // An event that is no Clock: it touches no memory.
-    pub fn unclocked(self, event: u8) -> State
-        requires { ⌜ (event ≤ 7) × (event / 2 ≡ 1 → ⊥) ⌝ }
-        ensures { λ r. ⌜ Stills r (λ m. eventOf self m event) ⌝ }
+    // All of the state but its companion.
+    fn bus(self) -> Bus
+        ensures { λ r. ⌜ r ≡ busOf self ⌝ }
     {
-        match event {
-            0 => self.start(),
-            1 => self.stop(),
-            4 => self.ticked(),
-            5 => self.lose(),
-            6 => self.lose_all(),
-            _ => self.restore(),
+        let power = self.power;
+        let phase = self.phase;
+        Bus {
+            power: power,
+            phase: phase,
+            address: self.address,
         }
     }
 
-    // One event of the eight. The two Clocks go one way, so that the large function behind them is called from one place.
-    fn happen(self, memory: &mut [u8], event: u8) -> Happened
-        requires { ⌜ Ready self (now memory) ⌝ }
-        requires { ⌜ event ≤ 7 ⌝ }
-        ensures { λ r. ⌜ HappenedWith r (now (memory .exit)) (eventOf self (now (memory .entry)) event) ⌝ }
+    // A bus with a companion beside it.
+    fn with(bus: Bus, companion: Companion) -> State
+        ensures { λ r. ⌜ r ≡ stateWith bus companion ⌝ }
     {
-        if event / 2 == 1 {
-            return self.clock(memory, event == 3);
-        }
-        Happened {
-            state: self.unclocked(event),
-            line: true,
+        let power = bus.power;
+        let phase = bus.phase;
+        State {
+            power: power,
+            phase: phase,
+            address: bus.address,
+            companion: companion,
         }
     }
 
-    // One event of the eight, with its answer byte.
-    pub fn advance(self, memory: &mut [u8], event: u8) -> Answered
-        requires { ⌜ Ready self (now memory) ⌝ }
-        requires { ⌜ event ≤ 7 ⌝ }
-        ensures { λ r. ⌜ AnsweredWith r (now (memory .exit)) (eventOf self (now (memory .entry)) event) ⌝ }
+    // The fresh device: as after both supplies were gone and main power returned.
+    pub fn fresh() -> State
+        ensures { λ r. ⌜ r ≡ fresh ⌝ }
     {
-        let done = self.happen(memory, event);
-        let state = done.state;
-        Answered {
-            state: state,
-            answer: state.answer(done.line),
-        }
+        State::with(Bus::resting(Power::On), Companion::lost())
     }
 
-    // One event of the eight, with its answer byte and the field of the calendar that it changed: a tick says it, and no
-    // other event changes one by counting.
+    // One event of the eight, with its answer byte and the field of the calendar that it changed: the companion does what
+    // it is asked, the bus does the rest.
     pub fn tell(self, memory: &mut [u8], event: u8) -> Told
         requires { ⌜ Ready self (now memory) ⌝ }
         requires { ⌜ event ≤ 7 ⌝ }
         ensures { λ r. ⌜ ToldWith r (now (memory .exit)) (eventOf self (now (memory .entry)) event) (rolledIn self event) ⌝ }
     {
-        if event == 4 {
-            let passed = self.tick();
-            let state = passed.state;
-            let rolled = passed.rolled;
-            return Told {
-                state: state,
-                answer: state.answer(true),
-                rolled: rolled,
-            };
-        }
-        let answered = self.advance(memory, event);
-        let state = answered.state;
+        let bus = self.bus();
+        let companion = self.companion;
+        let guard = companion.guard();
+        let served = serve(companion, bus.asks(event));
+        let reply = served.reply;
+        let went = bus.happen(memory, MEMORY_SIZE, NO_SELECT, guard, reply, event);
+        let next = went.bus;
+        let after = served.companion;
+        let state = State::with(next, after);
+        let rolled = served.rolled;
         Told {
             state: state,
-            answer: answered.answer,
-            rolled: Rolled::Nothing,
+            answer: state.answer(went.line),
+            rolled: rolled,
+        }
+    }
+
+    // One event of the eight, with its answer byte alone: what a tick says is dropped here.
+    pub fn advance(self, memory: &mut [u8], event: u8) -> Answered
+        requires { ⌜ Ready self (now memory) ⌝ }
+        requires { ⌜ event ≤ 7 ⌝ }
+        ensures { λ r. ⌜ AnsweredWith r (now (memory .exit)) (eventOf self (now (memory .entry)) event) ⌝ }
+    {
+        let told = self.tell(memory, event);
+        let state = told.state;
+        Answered {
+            state: state,
+            answer: told.answer,
         }
     }
 

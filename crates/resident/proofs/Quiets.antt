@@ -260,19 +260,13 @@ idle-of (Pointer k b) h = absurd (false≢true h)
 idle-of (Write x k b) h = absurd (false≢true h)
 idle-of (Read x k b) h = absurd (false≢true h)
 
-idle-kept : (s : State) (m : List ℕ) (d : Bool) → s .phase ≡ Idle
-    → unheard s m (clock d) ≡ clockedWith s m (s .phase) d
-idle-kept s m d h =
-    let k = idle-clock s m d h in
-    λ i. record { state = k .result i .state; memory = k .memory i; line = k .result i .line }
-
 -- a Clock: without main power there is no transfer, so it is not heard
 clock-by : (p : Power) (s : State) (m : List ℕ) (d : Bool) → s .power ≡ p → powerWithin p (s .phase) ≡ true
     → eventOn p (onWire (clock d)) s m ≡ clockedWith s m (s .phase) d
 unfolding eventOn lined powerWithin
 clock-by On s m d q w = rw q
-clock-by Backup s m d q w = idle-kept s m d (idle-of (s .phase) w)
-clock-by Off s m d q w = idle-kept s m d (idle-of (s .phase) w)
+clock-by Backup s m d q w = idle-clock s m d (idle-of (s .phase) w)
+clock-by Off s m d q w = idle-clock s m d (idle-of (s .phase) w)
 
 pub answered-clock : (s : State) (m : List ℕ) (e : ℕ) (i′ m′ : List ℕ) (p r : ℕ) {l : Bool} → wellFormed s ≡ true → e / 2 ≡ 1
     → Left (clockedWith s m (s .phase) (eqb e 3)) l i′ m′

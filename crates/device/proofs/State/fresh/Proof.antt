@@ -5,14 +5,17 @@ use borrow.Author.Needs.{needs}
 use Rattle.device.proofs.State.fresh.Statement.{statement}
 use Rattle.device.proofs.State.fresh.Tie as tie
 
-dark-requires : tie.Need-dark-requires
-dark-requires c κs = search needs
+resting-requires : tie.Need-resting-requires
+resting-requires c κs = search needs
 
-powered-requires : tie.Need-powered-requires
-powered-requires c κs = search needs
+lost-requires : tie.Need-lost-requires
+lost-requires c κs = search needs
+
+with-requires : tie.Need-with-requires
+with-requires c κs = search needs
 
 returns : tie.Need-returns
-returns c = rw (c .powered .ensures, c .before .before .dark .ensures)
+returns c = rw (c .with .ensures, c .before .lost .ensures, c .before .before .resting .ensures)
 
 pub fresh-spec : {M : Type 1} → statement M
-fresh-spec = tie.close (tie.spec dark-requires powered-requires returns)
+fresh-spec = tie.close (tie.spec resting-requires lost-requires with-requires returns)

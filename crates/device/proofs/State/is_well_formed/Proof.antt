@@ -3,9 +3,8 @@
 -- Assumes nothing.
 use mathlib.Core.Path.{_∙_}
 use borrow.Author.Needs.{needs}
-use Rattle.bus.proofs.Lone.{lone-within}
 use Rattle.device.specs.Limits.{wellFormed}
-use Rattle.device.proofs.Entry.{phase-from-zero}
+use Rattle.device.proofs.Entry.{lone-phase}
 use Rattle.device.proofs.State.is_well_formed.Statement.{statement}
 use Rattle.device.proofs.State.is_well_formed.Tie as tie
 
@@ -24,7 +23,7 @@ returns c =
     let p = c .before in
     rw (
       c .power-within .ensures,
-      p .phase-within .ensures ∙ (lone-within _ _ ∙ phase-from-zero _),
+      p .phase-within .ensures ∙ lone-phase _,
       p .before .is-within .ensures,
     )
 

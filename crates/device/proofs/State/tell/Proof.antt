@@ -1,31 +1,58 @@
 -- SPDX-License-Identifier: Apache-2.0
--- A tick tells its field; any other event none.
+-- `device::State::tell` meets its contract. The law `told` puts the companion's half and the bus's together.
 -- Assumes nothing.
+use native.Mathlib.Omega.{arith}
 use borrow.Author.Needs.{needs}
-use Rattle.device.proofs.Cases.{told-tick, told-other}
+use Rattle.device.proofs.Telling.{bus-ready, told}
 use Rattle.device.proofs.State.tell.Statement.{statement}
 use Rattle.device.proofs.State.tell.Tie as tie
 
-tick-requires : tie.Need-tick-requires
-tick-requires c κs = search needs
+bus-requires : tie.Need-bus-requires
+bus-requires c κs = search needs
+
+guard-requires : tie.Need-guard-requires
+guard-requires c κs = search needs
+
+asks-requires : tie.Need-asks-requires
+asks-requires c κs = search needs
+
+serve-requires : tie.Need-serve-requires
+serve-requires c κs = search needs
+
+happen-requires : tie.Need-happen-requires
+happen-requires c κs =
+    let b = c .before .before .before .before .before .before in
+    let pre = b .before .before .pre in
+    (bus-ready _ _ _ (b .bus .ensures) (pre .0), omega arith)
+
+with-requires : tie.Need-with-requires
+with-requires c κs = search needs
 
 answer-requires : tie.Need-answer-requires
 answer-requires c κs = search needs
 
-returns : tie.Need-returns
-returns c = told-tick _ _ _ _ _ (c .before .before .before .if1 .taken) (c .before .before .tick .ensures) (c .answer .ensures)
-
-advance-requires : tie.Need-advance-requires
-advance-requires c κs = search needs
-
 same-length : tie.Need-same-length
 same-length c = search needs
 
-returns-2 : tie.Need-returns-2
-returns-2 c =
-    told-other _ _ _ _ _ (c .before .before .before .before .before .if1 .left) (c .before .before .before .advance .ensures)
+returns : tie.Need-returns
+returns c =
+    let h = c .before .before .before .before .before .before in
+    let v = h .before .before .before in
+    let b = v .before .before .before .before in
+    let pre = b .before .before .pre in
+    told _ _ _ _ _ _ _ _ _ _ _ (pre .1) (b .bus .ensures) (v .before .before .guard .ensures .0) (v .before .asks .ensures)
+    (v .serve .ensures) (h .happen .ensures) (c .before .with .ensures) (c .answer .ensures)
 
 pub tell-spec : {M : Type 1} → statement M
 tell-spec =
     tie.close
-    (tie.spec tick-requires answer-requires returns advance-requires same-length returns-2)
+    (tie.spec
+    bus-requires
+    guard-requires
+    asks-requires
+    serve-requires
+    happen-requires
+    with-requires
+    answer-requires
+    same-length
+    returns)
