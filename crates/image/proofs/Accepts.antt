@@ -56,13 +56,6 @@ four-equal a b c d w x y z ha hb hc hd hw hx hy hz = same-truth _ _
     let ed = eqb-true d z (r .1) in
     eq-eqb (a + b * 0x100 + c * 0x10000 + d * 0x1000000) (w + x * 0x100 + y * 0x10000 + z * 0x1000000) (omega arith))
 
--- two bytes that lie in two words are tested once
-tested-twice : (r a b c d e f : Bool)
-    → ((r && (a && (b && (c && d)))) && (c && (d && (e && f)))) ≡ ((r && (a && b)) && (c && (d && (e && f))))
-tested-twice r a b false d e f = and-false (r && (a && (b && false))) ∙ sym (and-false (r && (a && b)))
-tested-twice r a b true false e f = and-false (r && (a && (b && false))) ∙ sym (and-false (r && (a && b)))
-tested-twice r a b true true e f = rw (and-true b)
-
 -- so many bytes of a list from a place on, by their places
 unfoldable pub listed : ℕ → ℕ → List ℕ → List ℕ
 listed zero k i = []
@@ -91,35 +84,23 @@ module _ (i : List ℕ) (b : (k : ℕ) → getD i k 0 < 256) where
       ≡ (eqb (getD i n 0) 0 && (eqb (getD i (n + 1) 0) 0 && (eqb (getD i (n + 2) 0) 0 && eqb (getD i (n + 3) 0) 0)))
   word-zero n = let z : 0 < 256 = omega arith in word-equal n 0 0 0 0 z z z z
 
-  -- bytes 54 to 59, by two words
-  overlap : (r : Bool)
-      → ((r && eqb (wordAt i 54) 0) && eqb (wordAt i 56) 0)
-      ≡ ((r && (eqb (getD i 54 0) 0 && eqb (getD i 55 0) 0)) && eqb (wordAt i 56) 0)
-  overlap r =
-      rw (word-zero 54, word-zero 56)
-      (tested-twice r (eqb (getD i 54 0) 0) (eqb (getD i 55 0) 0) (eqb (getD i 56 0) 0) (eqb (getD i 57 0) 0)
-      (eqb (getD i 58 0) 0) (eqb (getD i 59 0) 0))
-
   pub end-tested : length i ≡ imageSize
-      → ((((((((eqb (wordAt i 30) 0 && eqb (wordAt i 34) 0) && eqb (wordAt i 38) 0) && eqb (wordAt i 42) 0)
-      && eqb (wordAt i 46) 0) && eqb (wordAt i 50) 0) && eqb (wordAt i 54) 0) && eqb (wordAt i 56) 0)
-      && eqb (wordAt i 60) 0x01303100) ≡ sameBytes (drop 30 i) theEnd
+      → (((((((((eqb (getD i 30 0) 0 && eqb (getD i 31 0) 0) && eqb (wordAt i 32) 0) && eqb (wordAt i 36) 0)
+      && eqb (wordAt i 40) 0) && eqb (wordAt i 44) 0) && eqb (wordAt i 48) 0) && eqb (wordAt i 52) 0)
+      && eqb (wordAt i 56) 0) && eqb (wordAt i 60) 0x01303100) ≡ sameBytes (drop 30 i) theEnd
   unfolding sameBytes listed
   end-tested l =
       let h : length i ≤ 64 = omega arith in
       let e : drop 64 i ≡ [] = drop-of-length-le i h in
-      let six = ((((eqb (wordAt i 30) 0 && eqb (wordAt i 34) 0) && eqb (wordAt i 38) 0) && eqb (wordAt i 42) 0)
-      && eqb (wordAt i 46) 0) && eqb (wordAt i 50) 0 in
-      ap (λ (t : Bool). t && eqb (wordAt i 60) 0x01303100) (overlap six)
-      ∙ rw (
+      rw (
         ← listed-split 34 30 i 64 refl (omega arith),
         e,
-        word-zero 30,
-        word-zero 34,
-        word-zero 38,
-        word-zero 42,
-        word-zero 46,
-        word-zero 50,
+        word-zero 32,
+        word-zero 36,
+        word-zero 40,
+        word-zero 44,
+        word-zero 48,
+        word-zero 52,
         word-zero 56,
         word-equal 60 0 0x31 0x30 0x01 (omega arith) (omega arith) (omega arith) (omega arith),
       )
@@ -130,6 +111,9 @@ module _ (i : List ℕ) (b : (k : ℕ) → getD i k 0 < 256) where
     byte-0 : wordAt i n % 0x100 ≡ getD i n 0
     byte-0 = omega (arith, b n, b (n + 1), b (n + 2), b (n + 3))
 
+    below-0 : wordAt i n % 0x80 ≡ getD i n 0 % 0x80
+    below-0 = omega (arith, b n, b (n + 1), b (n + 2), b (n + 3))
+
     byte-1 : wordAt i n / 0x100 % 0x100 ≡ getD i (n + 1) 0
     byte-1 = omega (arith, b n, b (n + 1), b (n + 2), b (n + 3))
 
@@ -139,14 +123,8 @@ module _ (i : List ℕ) (b : (k : ℕ) → getD i k 0 < 256) where
     byte-2 : wordAt i n / 0x10000 % 0x100 ≡ getD i (n + 2) 0
     byte-2 = omega (arith, b n, b (n + 1), b (n + 2), b (n + 3))
 
-    below-2 : wordAt i n / 0x10000 % 0x80 ≡ getD i (n + 2) 0 % 0x80
-    below-2 = omega (arith, b n, b (n + 1), b (n + 2), b (n + 3))
-
     byte-3 : wordAt i n / 0x1000000 ≡ getD i (n + 3) 0
     byte-3 = omega (arith, b n, b (n + 1), b (n + 2), b (n + 3))
-
-    below-3 : wordAt i n / 0x1000000 % 0x80 ≡ getD i (n + 3) 0 % 0x80
-    below-3 = omega (arith, b n, b (n + 1), b (n + 2), b (n + 3))
 
   address-within : ltb (getD i 23 0) 0x20 ≡ ltb (getD i 23 0 * 256 + getD i 24 0) memorySize
   address-within = let l = b 24 in same-truth _ _
@@ -155,35 +133,38 @@ module _ (i : List ℕ) (b : (k : ℕ) → getD i k 0 < 256) where
 
   -- what the code tests of bytes 0 to 24
   pub places-tested :
-      (ltb (getD i 23 0) 0x20
-      && ((leb (getD i 22 0) 14
-      && ((ltb (getD i 1 0 % 0x80) 0x40
-      && (((((ltb (wordAt i 2 % 0x100) 0x80 && ltb (wordAt i 2 / 0x100 % 0x100) 0x80)
-      && ltb (wordAt i 2 / 0x10000 % 0x100) 0x40) && ltb (wordAt i 2 / 0x1000000) 8)
-      && ltb (wordAt i 6 % 0x100) 0x40) && ltb (wordAt i 6 / 0x100 % 0x100) 0x20))
-      && ((ltb (wordAt i 10 / 0x100 % 0x80) 0x40 && ltb (wordAt i 10 / 0x10000 % 0x80) 0x40)
-      && ltb (wordAt i 10 / 0x1000000 % 0x80) 0x20)))
-      && (((((ltb (wordAt i 15 % 0x100) 0x80 && ltb (wordAt i 15 / 0x100 % 0x100) 0x80)
-      && ltb (wordAt i 15 / 0x10000 % 0x100) 0x40) && ltb (wordAt i 15 / 0x1000000) 8)
-      && ltb (wordAt i 19 % 0x100) 0x40) && ltb (wordAt i 19 / 0x100 % 0x100) 0x20))) ≡ placesWithin i
+      (ltb (wordAt i 20 / 0x1000000) 0x20
+      && ((leb (wordAt i 20 / 0x10000 % 0x100) 14
+      && ((ltb (wordAt i 0 / 0x100 % 0x80) 0x40
+      && (((((ltb (wordAt i 0 / 0x10000 % 0x100) 0x80 && ltb (wordAt i 0 / 0x1000000) 0x80)
+      && ltb (wordAt i 4 % 0x100) 0x40) && ltb (wordAt i 4 / 0x100 % 0x100) 8)
+      && ltb (wordAt i 4 / 0x10000 % 0x100) 0x40) && ltb (wordAt i 4 / 0x1000000) 0x20))
+      && ((ltb (wordAt i 8 / 0x1000000 % 0x80) 0x40 && ltb (wordAt i 12 % 0x80) 0x40)
+      && ltb (wordAt i 12 / 0x100 % 0x80) 0x20)))
+      && (((((ltb (wordAt i 12 / 0x1000000) 0x80 && ltb (wordAt i 16 % 0x100) 0x80)
+      && ltb (wordAt i 16 / 0x100 % 0x100) 0x40) && ltb (wordAt i 16 / 0x10000 % 0x100) 8)
+      && ltb (wordAt i 16 / 0x1000000) 0x40) && ltb (wordAt i 20 % 0x100) 0x20))) ≡ placesWithin i
   unfolding isWithin registersWithin alarmWithin width.isWithin calendarAt
   places-tested =
       rw (
-        byte-0 2,
-        byte-1 2,
-        byte-2 2,
-        byte-3 2,
-        byte-0 6,
-        byte-1 6,
-        below-1 10,
-        below-2 10,
-        below-3 10,
-        byte-0 15,
-        byte-1 15,
-        byte-2 15,
-        byte-3 15,
-        byte-0 19,
-        byte-1 19,
+        below-1 0,
+        byte-2 0,
+        byte-3 0,
+        byte-0 4,
+        byte-1 4,
+        byte-2 4,
+        byte-3 4,
+        byte-3 8,
+        below-0 12,
+        below-1 12,
+        byte-3 12,
+        byte-0 16,
+        byte-1 16,
+        byte-2 16,
+        byte-3 16,
+        byte-0 20,
+        byte-2 20,
+        byte-3 20,
         address-within,
       )
 

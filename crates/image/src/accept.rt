@@ -31,53 +31,55 @@ fn word(image: &[u8], at: usize) -> u32
         + wide(image[at + 3]) * 0x100_0000
 }
 
-// Whether bytes 30 to 63 are those of every image: zeros, and the mark, which ends the last word. Bytes 56 and 57 lie in two
-// words.
+// Whether bytes 30 to 63 are those of every image: zeros, and the mark, which ends the last word. The words begin at 32, since a
+// caller that copies an image stores it by sixteen bytes, and a word that lies in two stores has to wait for both.
 fn has_end(image: &[u8]) -> bool
     requires { ⌜ length (now image) ≡ imageSize ⌝ }
     ensures { λ r. ⌜ r ≡ sameBytes (drop 30 (now (image .entry))) theEnd ⌝ }
 {
-    (word(image, 30) == 0)
-        & (word(image, 34) == 0)
-        & (word(image, 38) == 0)
-        & (word(image, 42) == 0)
-        & (word(image, 46) == 0)
-        & (word(image, 50) == 0)
-        & (word(image, 54) == 0)
+    (image[30] == 0)
+        & (image[31] == 0)
+        & (word(image, 32) == 0)
+        & (word(image, 36) == 0)
+        & (word(image, 40) == 0)
+        & (word(image, 44) == 0)
+        & (word(image, 48) == 0)
+        & (word(image, 52) == 0)
         & (word(image, 56) == 0)
         & (word(image, 60) == 0x0130_3100)
 }
 
 // The limits of bytes 0 to 24, the registers, the core and the two addresses: each byte by its place in its word. The words
-// begin where the time does, in the registers and in the core, so their tests are alike. The tests are joined in the order of
-// the definition that they meet.
+// begin at multiples of four, so that none lies in two of the stores by which a caller copies an image (see `has_end`), and
+// each has the name of its first byte. The tests are joined in the order of the definition that they meet.
 fn places_within(image: &[u8]) -> bool
     requires { ⌜ length (now image) ≡ imageSize ⌝ }
     ensures { λ r. ⌜ r ≡ placesWithin (now (image .entry)) ⌝ }
 {
-    let time = word(image, 2);
-    let date = word(image, 6);
-    let alarm = word(image, 10);
-    let core_time = word(image, 15);
-    let core_date = word(image, 19);
-    (image[23] < 0x20)
-        & ((image[22] <= 14)
-            & ((image[1] % 0x80 < 0x40)
-                & ((time % 0x100 < 0x80)
-                    & (time / 0x100 % 0x100 < 0x80)
-                    & (time / 0x1_0000 % 0x100 < 0x40)
-                    & (time / 0x100_0000 < 8)
-                    & (date % 0x100 < 0x40)
-                    & (date / 0x100 % 0x100 < 0x20))
-                & ((alarm / 0x100 % 0x80 < 0x40)
-                    & (alarm / 0x1_0000 % 0x80 < 0x40)
-                    & (alarm / 0x100_0000 % 0x80 < 0x20)))
-            & ((core_time % 0x100 < 0x80)
-                & (core_time / 0x100 % 0x100 < 0x80)
-                & (core_time / 0x1_0000 % 0x100 < 0x40)
-                & (core_time / 0x100_0000 < 8)
-                & (core_date % 0x100 < 0x40)
-                & (core_date / 0x100 % 0x100 < 0x20)))
+    let from_control = word(image, 0);
+    let from_hours = word(image, 4);
+    let from_year = word(image, 8);
+    let from_alarm_date = word(image, 12);
+    let from_core_minutes = word(image, 16);
+    let from_core_month = word(image, 20);
+    (from_core_month / 0x100_0000 < 0x20)
+        & ((from_core_month / 0x1_0000 % 0x100 <= 14)
+            & ((from_control / 0x100 % 0x80 < 0x40)
+                & ((from_control / 0x1_0000 % 0x100 < 0x80)
+                    & (from_control / 0x100_0000 < 0x80)
+                    & (from_hours % 0x100 < 0x40)
+                    & (from_hours / 0x100 % 0x100 < 8)
+                    & (from_hours / 0x1_0000 % 0x100 < 0x40)
+                    & (from_hours / 0x100_0000 < 0x20))
+                & ((from_year / 0x100_0000 % 0x80 < 0x40)
+                    & (from_alarm_date % 0x80 < 0x40)
+                    & (from_alarm_date / 0x100 % 0x80 < 0x20)))
+            & ((from_alarm_date / 0x100_0000 < 0x80)
+                & (from_core_minutes % 0x100 < 0x80)
+                & (from_core_minutes / 0x100 % 0x100 < 0x40)
+                & (from_core_minutes / 0x1_0000 % 0x100 < 8)
+                & (from_core_minutes / 0x100_0000 < 0x40)
+                & (from_core_month % 0x100 < 0x20)))
 }
 
 // A byte that comes in, 0 to 8 of its clocks done: only their bits can be set; and one that waits for its acknowledge is

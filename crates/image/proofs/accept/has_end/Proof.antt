@@ -1,5 +1,5 @@
 -- SPDX-License-Identifier: Apache-2.0
--- The bytes of each word are those of every image.
+-- Two bytes alone, and the bytes of each word, are those of every image.
 -- Assumes nothing.
 use native.Mathlib.Omega.{arith}
 use denote.Ref.{now}
@@ -7,6 +7,12 @@ use borrow.Author.Needs.{needs}
 use Rattle.image.proofs.Accepts.{end-tested}
 use Rattle.image.proofs.accept.has_end.Statement.{statement}
 use Rattle.image.proofs.accept.has_end.Tie as tie
+
+shared-slice-read-result : tie.Need-shared-slice-read-result
+shared-slice-read-result c = search needs
+
+shared-slice-read-result-2 : tie.Need-shared-slice-read-result-2
+shared-slice-read-result-2 c = search needs
 
 word-requires : tie.Need-word-requires
 word-requires c κs = search needs
@@ -32,23 +38,19 @@ word-requires-7 c κs = search needs
 word-requires-8 : tie.Need-word-requires-8
 word-requires-8 c κs = search needs
 
-word-requires-9 : tie.Need-word-requires-9
-word-requires-9 c κs = search needs
-
 returns : tie.Need-returns
 returns c =
-    let k = c .before .before .before .before .before .before .before .before .before in
+    let k = c .before .before .before .before .before .before .before .before .before .before in
     let i = now (k .before .args .image) in
     rw (
-      c .before .before .before .before .before .before .before .before .word .ensures,
-      c .before .before .before .before .before .before .before .word2 .ensures,
-      c .before .before .before .before .before .before .word3 .ensures,
-      c .before .before .before .before .before .word4 .ensures,
-      c .before .before .before .before .word5 .ensures,
-      c .before .before .before .word6 .ensures,
-      c .before .before .word7 .ensures,
-      c .before .word8 .ensures,
-      c .word9 .ensures,
+      c .before .before .before .before .before .before .before .word .ensures,
+      c .before .before .before .before .before .before .word2 .ensures,
+      c .before .before .before .before .before .word3 .ensures,
+      c .before .before .before .before .word4 .ensures,
+      c .before .before .before .word5 .ensures,
+      c .before .before .word6 .ensures,
+      c .before .word7 .ensures,
+      c .word8 .ensures,
     )
     (end-tested i (λ n. omega (arith, k .shared-slice-known .given n)) (k .before .pre))
 
@@ -56,6 +58,8 @@ pub has-end-spec : {M : Type 1} → statement M
 has-end-spec =
     tie.close
     (tie.spec
+    shared-slice-read-result
+    shared-slice-read-result-2
     word-requires
     word-requires-2
     word-requires-3
@@ -64,5 +68,4 @@ has-end-spec =
     word-requires-6
     word-requires-7
     word-requires-8
-    word-requires-9
     returns)

@@ -1,5 +1,5 @@
 -- SPDX-License-Identifier: Apache-2.0
--- Each byte by its place in its word, or alone.
+-- Each byte by its place in its word.
 -- Assumes nothing.
 use native.Mathlib.Omega.{arith}
 use denote.Ref.{now}
@@ -23,26 +23,20 @@ word-requires-4 c κs = search needs
 word-requires-5 : tie.Need-word-requires-5
 word-requires-5 c κs = search needs
 
-shared-slice-read-result : tie.Need-shared-slice-read-result
-shared-slice-read-result c = search needs
-
-shared-slice-read-result-2 : tie.Need-shared-slice-read-result-2
-shared-slice-read-result-2 c = search needs
-
-shared-slice-read-result-3 : tie.Need-shared-slice-read-result-3
-shared-slice-read-result-3 c = search needs
+word-requires-6 : tie.Need-word-requires-6
+word-requires-6 c κs = search needs
 
 returns : tie.Need-returns
 returns c =
-    let w = c .before .before .before in
-    let k = w .before .before .before .before .before in
+    let k = c .before .before .before .before .before .before in
     let i = now (k .before .args .image) in
     rw (
-      w .before .before .before .before .word .ensures,
-      w .before .before .before .word2 .ensures,
-      w .before .before .word3 .ensures,
-      w .before .word4 .ensures,
-      w .word5 .ensures,
+      c .before .before .before .before .before .word .ensures,
+      c .before .before .before .before .word2 .ensures,
+      c .before .before .before .word3 .ensures,
+      c .before .before .word4 .ensures,
+      c .before .word5 .ensures,
+      c .word6 .ensures,
     )
     (places-tested i (λ n. omega (arith, k .shared-slice-known .given n)))
 
@@ -55,7 +49,5 @@ places-within-spec =
     word-requires-3
     word-requires-4
     word-requires-5
-    shared-slice-read-result
-    shared-slice-read-result-2
-    shared-slice-read-result-3
+    word-requires-6
     returns)
