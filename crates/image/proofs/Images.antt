@@ -11,6 +11,7 @@ use native.Mathlib.Omega.{arith}
 use lib.ListN.{length, take}
 use Rattle.wire.proofs.Tests.{by-test, and-split}
 use Rattle.companion.specs.Registers.{registerBytes}
+use Rattle.device.specs.Numbers.{accepted, wrongState}
 use Rattle.device.specs.Power.{fresh}
 use Rattle.device.specs.Limits.{wellFormed}
 use Rattle.device.specs.declared.State.{State}
@@ -19,7 +20,7 @@ use Rattle.frame.specs.Bytes.{sameBytes}
 use Rattle.frame.proofs.Lists.{same-lengths, same-self, same-equal}
 use Rattle.frame.proofs.Back.{power-of-number, phase-of-transfer, address-of-bytes}
 use Rattle.image.specs.Image.{imageSize, imageOf, calendarAt, candidate, decodeOf}
-use Rattle.image.specs.Reading.{WrittenBy, DecodeSettled}
+use Rattle.image.specs.Reading.{WrittenBy, decodedSays, DecodeSettled}
 use Rattle.image.specs.declared.Decoded.{Decoded}
 use Rattle.image.specs.declared.Decoded.the-variants.{Good, Bad}
 
@@ -96,3 +97,10 @@ settled-decode i Bad h = none (decodeOf i) refl where
   none : (d : Decoded) → decodeOf i ≡ d → d ≡ Bad
   none Bad e = refl
   none (Good s) e = let w = image-decode i s e in absurd (h s w)
+
+-- each answer's number in 01's table
+pub number-read : (s : State) → decodedSays (Good s) .number ≡ accepted
+number-read s = refl
+
+pub number-refused : decodedSays Bad .number ≡ wrongState
+number-refused = refl
