@@ -43,16 +43,18 @@ pkg_config = sed -e 's|@INCLUDE@|$(1)|' -e 's|@LIB@|$(2)|' -e 's|@VERSION@|$(VER
 # How long `make fuzz` runs each of its targets.
 SECONDS := 200
 
-.PHONY: help test check demo lib archives install host ctest second compare edits all-edits web web-test controller bench \
-	counts fuzz fmt fmt-check setup clean
+.PHONY: help test tests check demo lib archives install host ctest second compare edits all-edits web web-test controller \
+	bench counts fuzz fmt fmt-check setup clean
 
 help: ## list these targets
 	@awk -F':.*## ' '/^[a-z-]+:.*## / { printf "make %-10s %s\n", $$1, $$2 }' Makefile
 
-# `rt ci` stands last, so that the last line printed is its "N passed, 0 failed".
-test: setup lib ctest ## everything: set-up, the archives, the tests in C and Rust, then all proofs from nothing (rt ci)
+# It ends in `rt ci`, whose "N passed, 0 failed" is the last line printed.
+test: setup ## everything: set-up, all proofs from nothing (rt ci), the tests in C and Rust on what was just proved
+	@tools/test.sh
+
+tests: lib ctest ## the tests in C and Rust alone
 	@$(CARGO_TEST)
-	@rt ci
 
 check: ## prove the crates that changed, and run the programs
 	@rt check
