@@ -119,7 +119,7 @@ fn a_name_that_is_gone_is_noticed() {
         "wire/must-fail/none",
         "edits/wire/none",
         "second/none",
-        "rig/proofs/Runs.none",
+        "lists/proofs/Runs.none",
     ] {
         assert!(fault(name).is_some(), "{name}");
     }

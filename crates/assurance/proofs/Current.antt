@@ -16,7 +16,7 @@ use Rattle.wire.specs.Machine.{clocked, lined}
 use Rattle.companion.specs.Part.{pinOf, lostOf}
 use Rattle.device.specs.Power.{fresh}
 use Rattle.device.specs.Event.{happening, eventOn}
-use Rattle.rig.specs.Run.{runOf, allKnown}
+use Rattle.lists.specs.Run.{runOf, allKnown}
 use Rattle.clocks.specs.Events.{written, writeEvents}
 use Rattle.holding.specs.declared.Master.the-variants.{Rig}
 use Rattle.assurance.specs.Same.{Alongside, ReadsIn}

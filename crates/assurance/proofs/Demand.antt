@@ -6,8 +6,8 @@ use Prim.Native.Nat.{ℕ}
 use mathlib.Core.Path.{_≡_, refl, sym, ap, _∙_}
 use mathlib.Core.Bool.{Bool, true, false, cond}
 use mathlib.Core.List.{List, [], _∷_, _++_}
-use Rattle.rig.specs.Run.{following, runOf}
-use Rattle.rig.proofs.Pieces.{run-append}
+use Rattle.lists.specs.Run.{following, runOf}
+use Rattle.lists.proofs.Pieces.{run-append}
 use Rattle.isolation.proofs.Demand3.{demand-three}
 use Rattle.assurance.specs.Session.{World, Act, asks, calls, begin, isAnswered, ranOn, afterAct, answeredOf, sessionOf}
 use Rattle.assurance.specs.Demand.{SessionAsList, DemandThreeOfSessions}

@@ -12,9 +12,9 @@ use Rattle.device.specs.Chip.{memorySize}
 use Rattle.device.specs.Limits.{wellFormed}
 use Rattle.image.specs.Image.{imageOf, decodeOf}
 use Rattle.image.specs.declared.Decoded.the-variants.{Good}
-use Rattle.rig.specs.Run.{Outcome, allKnown}
+use Rattle.lists.specs.Run.{Outcome, allKnown}
 use Rattle.image.proofs.Images.{decode-image}
-use Rattle.rig.proofs.Runs.{outcome-written}
+use Rattle.lists.proofs.Runs.{outcome-written}
 use Rattle.holding.specs.Bus.{mayAsk, mayCall, frees, masterNumber, holderNumber, standingOf}
 use Rattle.handheld.specs.Outcome.{AskOutcome, CallOutcome}
 use Rattle.holding.specs.declared.Master.{Master}

@@ -13,7 +13,7 @@ use Rattle.bus.specs.Limits.{powerWithin}
 use Rattle.bus.specs.declared.Power.{Power}
 use Rattle.bus.specs.declared.Power.the-variants.{On, Backup, Off}
 use Rattle.device.specs.declared.State.{State}
-use Rattle.rig.specs.Run.{runOf}
+use Rattle.lists.specs.Run.{runOf}
 use Rattle.holding.specs.declared.Master.{Master}
 use Rattle.assurance.specs.Session.{afterActs, ownOf, begin}
 use Rattle.assurance.specs.Same.{ReadsIn, SameAnswers}

@@ -16,8 +16,8 @@ use Rattle.bus.specs.declared.Power.{Power}
 use Rattle.bus.specs.declared.Power.the-variants.{On, Backup, Off}
 use Rattle.device.specs.Event.{Happening, onWire, second, lost, gone, returned, happening, eventOn, eventOf}
 use Rattle.device.specs.declared.State.{State}
-use Rattle.rig.specs.Run.{runOf, allKnown}
-use Rattle.rig.proofs.Pieces.{run-append}
+use Rattle.lists.specs.Run.{runOf, allKnown}
+use Rattle.lists.proofs.Pieces.{run-append}
 use Rattle.holding.specs.Bus.{sameMaster, holds, afterAsk, isBus, anyBus, mayCall, freedBy, frees}
 use Rattle.holding.specs.declared.Master.{Master}
 use Rattle.holding.specs.declared.Holder.{Holder}

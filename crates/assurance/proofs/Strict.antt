@@ -20,7 +20,7 @@ use Rattle.companion.specs.declared.Companion.{Companion as Desk}
 use Rattle.device.specs.Event.{Happening, onWire, second, lost, gone, returned, happening, eventOn, eventOf}
 use Rattle.device.specs.Answer.{pinShown, answerByte}
 use Rattle.device.specs.declared.State.{State}
-use Rattle.rig.specs.Run.{runOf}
+use Rattle.lists.specs.Run.{runOf}
 use Rattle.assurance.specs.Same.{marked, ReadAt, ReadSet, ninthLow, placedBy, ReadInAt, ReadIn, ReadsIn}
 use Rattle.assurance.proofs.Near.{Placed}
 use Rattle.assurance.proofs.Steps.{cellsOf, Alike, Together, mine}

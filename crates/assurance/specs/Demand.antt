@@ -11,7 +11,7 @@ use Rattle.wire.specs.declared.Side.the-variants.{Memory, Companion}
 use Rattle.wire.specs.declared.Phase.the-variants.{Idle}
 use Rattle.bus.specs.declared.Power.the-variants.{On}
 use Rattle.device.specs.Chip.{fm3130}
-use Rattle.rig.specs.Run.{Ended, runOf}
+use Rattle.lists.specs.Run.{Ended, runOf}
 use Rattle.merging.specs.Merge.{eventsOf, picked}
 use Rattle.merging.specs.Party.{to, isMemory, isCompanion, BusEvent, PartyEvent, Whole}
 use Rattle.merging.specs.Demand.{Merge}

@@ -21,7 +21,7 @@ use Rattle.wire.specs.declared.Phase.the-variants.{Idle, Slave, AddressHigh, Ad
 use Rattle.device.specs.Chip.{memorySize}
 use Rattle.device.specs.Event.{Happening, onWire, second, lost, gone, returned, happening, eventOf}
 use Rattle.device.specs.declared.State.{State}
-use Rattle.rig.specs.Run.{runOf}
+use Rattle.lists.specs.Run.{runOf}
 use Rattle.holding.specs.Bus.{sameMaster, frees}
 use Rattle.holding.specs.declared.Master.{Master}
 use Rattle.assurance.specs.Session.{World, Act, asks, calls, isAnswered, afterAct, afterActs, ownOf, begin}

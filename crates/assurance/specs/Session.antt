@@ -15,7 +15,7 @@ use mathlib.Core.List.{List, [], _∷_, _++_}
 use Rattle.device.specs.Numbers.{accepted, unknownEvent, notHeld}
 use Rattle.device.specs.Event.{happening}
 use Rattle.device.specs.declared.State.{State}
-use Rattle.rig.specs.Run.{Ended, following, runOf, allKnown}
+use Rattle.lists.specs.Run.{Ended, following, runOf, allKnown}
 use Rattle.holding.specs.Bus.{sameMaster, afterAsk, isBus, mayCall, holderAfter}
 use Rattle.holding.specs.declared.Master.{Master}
 use Rattle.holding.specs.declared.Holder.{Holder}

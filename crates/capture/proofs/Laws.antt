@@ -11,7 +11,7 @@ use lib.ListN.{length}
 use borrow.Author.Tests.{eqb-true, eqb-false, leb-true}
 use Rattle.wire.proofs.Tests.{by-test}
 use Rattle.image.specs.Image.{candidate}
-use Rattle.rig.proofs.Pieces.{answers-length}
+use Rattle.lists.proofs.Pieces.{answers-length}
 use Rattle.contents.specs.Table.{isSound, imageKind, memoryKind, eventsKind, answersKind}
 use Rattle.contents.specs.Sections.{firstFaulty, entryOf, sectionOf}
 use Rattle.contents.proofs.Sound.{sound-of}

@@ -18,7 +18,7 @@ use Rattle.device.specs.Step.{AnsweredWith}
 use Rattle.device.specs.declared.State.{State}
 use Rattle.device.specs.declared.Answered.{Answered}
 use Rattle.device.proofs.Wellformed.{event-ok}
-use Rattle.rig.specs.Run.{answerTo, runOf}
+use Rattle.lists.specs.Run.{answerTo, runOf}
 use Rattle.reading.specs.Reading.{takenAt}
 use Rattle.reading.specs.declared.Taken.{Taken}
 use Rattle.capture.specs.Verdict.{compared}

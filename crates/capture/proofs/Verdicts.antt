@@ -13,7 +13,7 @@ use borrow.Author.Tests.{le-leb, lt-leb, eq-eqb, ne-eqb, eqb-true}
 use Rattle.device.specs.Chip.{memorySize}
 use Rattle.device.specs.declared.State.{State}
 use Rattle.image.specs.Image.{candidate, decodeOf}
-use Rattle.rig.specs.Run.{runOf, allKnown}
+use Rattle.lists.specs.Run.{runOf, allKnown}
 use Rattle.image.specs.declared.Decoded.the-variants.{Good, Bad}
 use Rattle.image.proofs.Images.{candidate-of, image-decode}
 use Rattle.contents.specs.Table.{bodyOf, isState, isAccepted, imageKind, memoryKind, eventsKind, answersKind}

@@ -13,7 +13,7 @@ use mathlib.Core.List.{List, [], _∷_}
 use lib.Dec.{leb, eqb}
 use lib.ListN.{length}
 use Rattle.image.specs.Image.{candidate}
-use Rattle.rig.specs.Run.{runOf}
+use Rattle.lists.specs.Run.{runOf}
 use Rattle.contents.specs.Table.{imageKind, memoryKind, eventsKind, answersKind}
 use Rattle.contents.specs.Sections.{firstFaulty, sectionOf}
 use Rattle.capture.specs.declared.Figures.{Figures}

@@ -6,7 +6,7 @@ ghost use Prim.Native.Nat.{_+_, _≤_};
 ghost use lib.ListN.{length, take, drop};
 ghost use Rattle.device.specs.Chip.{memorySize};
 ghost use Rattle.device.specs.Limits.{wellFormed};
-ghost use Rattle.rig.specs.Run.{runOf, allKnown};
+ghost use Rattle.lists.specs.Run.{runOf, allKnown};
 ghost use Rattle.capture.specs.Verdict.{compared};
 use crate::Verdict;
 use device::State;

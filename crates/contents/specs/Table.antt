@@ -13,7 +13,7 @@ use lib.Dec.{leb, ltb, eqb}
 use lib.ListN.{length, take, drop, getD}
 use Rattle.device.specs.Chip.{memorySize}
 use Rattle.image.specs.Image.{decodeOf}
-use Rattle.rig.specs.Run.{allKnown}
+use Rattle.lists.specs.Run.{allKnown}
 use Rattle.image.specs.declared.Decoded.{Decoded}
 use Rattle.image.specs.declared.Decoded.the-variants.{Good, Bad}
 use Rattle.contents.specs.declared.Entry.{Entry}

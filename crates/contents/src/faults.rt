@@ -15,7 +15,7 @@ use crate::entries::entry_at;
 use image::Decoded;
 use image::MEMORY;
 use image::read::decode;
-use rig::run::all_known;
+use lists::all_known;
 
 // The bytes of the table.
 const TABLE: u32 = 48;

@@ -12,10 +12,11 @@ use Rattle.device.specs.Numbers.{accepted, wrongMemory, wrongState, unknownEven
 use Rattle.device.specs.Chip.{memorySize}
 use Rattle.device.specs.declared.State.{State}
 use Rattle.image.specs.Image.{decodeOf}
-use Rattle.rig.specs.Run.{RanThrough, allKnown, outcomeWith, outcomeOf}
+use Rattle.lists.specs.Run.{RanThrough, allKnown, outcomeOf}
+use Rattle.rig.specs.Run.{outcomeWith}
 use Rattle.rig.specs.declared.Ran.{Ran}
 use Rattle.image.specs.declared.Decoded.the-variants.{Good, Bad}
-use Rattle.rig.proofs.Runs.{outcome-short-answers, outcome-written, outcome-done}
+use Rattle.lists.proofs.Runs.{outcome-short-answers, outcome-written, outcome-done}
 use Rattle.holding.specs.Bus.{mayAsk, mayCall, masterNumber, standingOf}
 use Rattle.handheld.specs.Outcome.{askOf, AskSettled, refusedCall, ranCall, busAfter, callOf, CallSettled}
 use Rattle.holding.specs.declared.Master.{Master}

@@ -14,7 +14,8 @@ use lib.ListN.{length}
 use Rattle.device.specs.Numbers.{accepted, wrongMemory, wrongState, unknownEvent, notHeld}
 use Rattle.device.specs.Chip.{memorySize}
 use Rattle.image.specs.Image.{decodeOf}
-use Rattle.rig.specs.Run.{Outcome, refused, outcomeOf, outcomeWith, allKnown}
+use Rattle.lists.specs.Run.{Outcome, refused, outcomeOf, allKnown}
+use Rattle.rig.specs.Run.{outcomeWith}
 use Rattle.rig.specs.declared.Ran.{Ran}
 use Rattle.image.specs.declared.Decoded.{Decoded}
 use Rattle.image.specs.declared.Decoded.the-variants.{Good, Bad}

@@ -17,8 +17,8 @@ use holding::bus::may_call;
 use holding::bus::standing;
 use image::MEMORY;
 use image::accept::is_image;
+use lists::all_known;
 use rig::Ran;
-use rig::run::all_known;
 use rig::run::refuse;
 use rig::run::run_events;
 

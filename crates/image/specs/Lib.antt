@@ -2,3 +2,4 @@
 pub mod Image
 pub mod Accepting
 pub mod Reading
+pub mod Made

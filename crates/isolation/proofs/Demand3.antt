@@ -16,7 +16,7 @@ use Rattle.companion.specs.declared.Companion.{Companion}
 use Rattle.device.specs.Chip.{fm3130, machineOf, Done, doneOf}
 use Rattle.device.specs.Event.{eventOf, eventOn, happening}
 use Rattle.device.specs.Answer.{answerByte}
-use Rattle.rig.specs.Run.{runOf}
+use Rattle.lists.specs.Run.{runOf}
 use Rattle.merging.specs.Merge.{Said, by, eventsOf, keepIf, picked}
 use Rattle.merging.specs.Party.{isMemory, isCompanion, BusEvent, PartyEvent}
 use Rattle.merging.specs.Apart.{run, answersOf}

@@ -14,10 +14,10 @@ use Rattle.device.specs.Chip.{fm3130}
 use Rattle.device.specs.declared.State.{State}
 use Rattle.device.proofs.Wellformed.{between-well-formed}
 use Rattle.image.specs.Image.{calendarBytes, imageOf}
-use Rattle.rig.specs.Run.{runOf, outcomeOf}
-use Rattle.rig.specs.Calls.{leftOf}
+use Rattle.lists.specs.Run.{runOf, outcomeOf}
+use Rattle.lists.specs.Calls.{leftOf}
 use Rattle.image.proofs.Images.{decode-image}
-use Rattle.rig.proofs.Calls.{leftBy, leaves-run, one-call}
+use Rattle.lists.proofs.Calls.{leftBy, leaves-run, one-call}
 use Rattle.merging.specs.Merge.{eventsOf}
 use Rattle.merging.specs.Party.{PartyEvent}
 use Rattle.isolation.specs.Demand3.{Held, bytesOf, Demanded}

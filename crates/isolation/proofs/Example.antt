@@ -25,7 +25,7 @@ use Rattle.calendar.specs.Next.{isValid, nextOf, tickOf as countOf}
 use Rattle.companion.specs.Part.{aimOf, storeOf, tickOf}
 use Rattle.device.specs.Chip.{fm3130}
 use Rattle.device.specs.Event.{happening, eventOn}
-use Rattle.rig.specs.Run.{runOf}
+use Rattle.lists.specs.Run.{runOf}
 use Rattle.merging.specs.Merge.{calling, moving, eventsOf}
 use Rattle.merging.specs.Party.{to, BusEvent, Whole}
 use Rattle.merging.specs.Demand.{WhereWritten, IfWritten, done, one, two, inside, Merge}

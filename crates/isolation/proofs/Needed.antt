@@ -17,7 +17,7 @@ use Rattle.wire.specs.declared.Side.the-variants.{Companion}
 use Rattle.companion.specs.Part.{aimOf, storeOf, tickOf}
 use Rattle.device.specs.Chip.{fm3130}
 use Rattle.device.specs.Event.{happening, eventOn}
-use Rattle.rig.specs.Run.{runOf}
+use Rattle.lists.specs.Run.{runOf}
 use Rattle.merging.specs.Merge.{calling, moving, eventsOf}
 use Rattle.merging.specs.Party.{to, Whole}
 use Rattle.merging.specs.Demand.{done, one, two, Merge}

@@ -20,7 +20,7 @@ use Rattle.device.specs.Chip.{fm3130}
 use Rattle.device.specs.Event.{eventOf}
 use Rattle.device.specs.Answer.{answerByte}
 use Rattle.device.specs.declared.State.{State}
-use Rattle.rig.specs.Run.{runOf}
+use Rattle.lists.specs.Run.{runOf}
 use Rattle.merging.specs.Merge.{eventsOf, picked}
 use Rattle.merging.specs.Party.{to, isMemory, isCompanion, BusEvent, PartyEvent, Whole}
 use Rattle.merging.specs.Demand.{Merge, IfWritten}

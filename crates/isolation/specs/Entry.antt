@@ -1,7 +1,7 @@
 -- SPDX-License-Identifier: Apache-2.0
 -- Demand 3 of the entry itself: what three runs from one image and one memory leave and answer, the third with a merge
 -- of the first two lists. Each is one call of the list run, or its list cut into several calls that hand image and
--- memory on (`Leaves` of rig/specs/Calls.antt).
+-- memory on (`Leaves` of lists/specs/Calls.antt).
 --   bytesAt               some bytes of an image
 --   DemandedOf            what holds of the three runs
 --   Asked                 what is asked of the image, the lists and the merge
@@ -18,8 +18,8 @@ use Rattle.device.specs.Chip.{fm3130}
 use Rattle.device.specs.Numbers.{accepted}
 use Rattle.device.specs.declared.State.{State}
 use Rattle.image.specs.Image.{decodeOf}
-use Rattle.rig.specs.Run.{outcomeOf}
-use Rattle.rig.specs.Calls.{Left, leftOf, Leaves}
+use Rattle.lists.specs.Run.{outcomeOf}
+use Rattle.lists.specs.Calls.{Left, leftOf, Leaves}
 use Rattle.image.specs.declared.Decoded.the-variants.{Good}
 use Rattle.merging.specs.Merge.{eventsOf, picked}
 use Rattle.merging.specs.Party.{to, isMemory, isCompanion, BusEvent, PartyEvent, Whole}

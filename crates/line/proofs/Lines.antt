@@ -40,7 +40,7 @@ use Rattle.device.specs.declared.State.{State}
 use Rattle.frame.specs.Layout.{phaseOf}
 use Rattle.image.specs.Accepting.{isImage}
 use Rattle.image.specs.Image.{companionAt, candidate}
-use Rattle.rig.specs.Run.{answerTo}
+use Rattle.lists.specs.Run.{answerTo}
 use Rattle.line.specs.Line.{Pulls, pulls, pullsOf, pulledAt, pullsAt, pullsWith, takenPulls, fetchedOf, lowBit}
 use Rattle.line.specs.Line.{openedLow, sentPulls}
 use Rattle.image.proofs.Accepts.{image-well}

@@ -31,7 +31,7 @@ use Rattle.device.specs.Chip.{memorySize, fm3130}
 use Rattle.device.specs.Event.{eventOf}
 use Rattle.device.specs.declared.State.{State}
 use Rattle.image.specs.Image.{decodeOf}
-use Rattle.rig.specs.Run.{answerTo}
+use Rattle.lists.specs.Run.{answerTo}
 use Rattle.image.specs.declared.Decoded.{Decoded}
 use Rattle.image.specs.declared.Decoded.the-variants.{Good, Bad}
 

@@ -18,8 +18,8 @@ use Rattle.bus.specs.declared.Power.{Power}
 use Rattle.bus.specs.declared.Power.the-variants.{On, Backup, Off}
 use Rattle.device.specs.Event.{Happening, onWire, second, lost, gone, returned, happening, eventOn, eventOf}
 use Rattle.device.specs.declared.State.{State}
-use Rattle.rig.specs.Run.{runOf}
-use Rattle.rig.proofs.Pieces.{run-append}
+use Rattle.lists.specs.Run.{runOf}
+use Rattle.lists.proofs.Pieces.{run-append}
 use Rattle.lamps.specs.History.{Moment, History, moment, pastOf}
 use Rattle.lamps.specs.Log.{clocksOf, refusedAt, refusedBy, refusedIn, pulls, gaveAt, gaveWhat, isPart, ninth, markFrom, markOf, logOf}
 use Rattle.eight.specs.Lit.{lampAddress, isStop, isTick, none, count, Last, nothing, gave, readIn, decided, litFrom}

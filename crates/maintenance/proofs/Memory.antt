@@ -30,7 +30,7 @@ use Rattle.companion.specs.declared.Companion as Part
 use Rattle.device.specs.Chip.{memorySize, fm3130}
 use Rattle.device.specs.Event.{Happening, onWire, second, lost, gone, returned, happening, eventOn, eventOf}
 use Rattle.device.specs.declared.State.{State}
-use Rattle.rig.specs.Run.{runOf}
+use Rattle.lists.specs.Run.{runOf}
 use Rattle.table.specs.Protected.{Change, same, eighth}
 use Rattle.table.proofs.Protected.{only-eighth-clocks}
 use Rattle.lamps.specs.History.{Moment, History, moment, happened, left, pastOf}

@@ -19,7 +19,7 @@ use Rattle.bus.specs.declared.Power.{Power}
 use Rattle.bus.specs.declared.Power.the-variants.{On, Backup, Off}
 use Rattle.device.specs.Event.{Happening, onWire, second, lost, gone, returned, eventOn, eventOf}
 use Rattle.device.specs.declared.State.{State}
-use Rattle.rig.specs.Run.{runOf}
+use Rattle.lists.specs.Run.{runOf}
 use Rattle.lamps.specs.History.{Moment, History, moment, happened, left, pastOf}
 use Rattle.lamps.specs.Log.{clocksOf, refusedIn, clocksDone, dueAt, pulls, isClock, gaveAt, gaveWhat, ninth, markFrom}
 use Rattle.eight.specs.Lit.{isFailure, none}

@@ -30,7 +30,7 @@ use Rattle.companion.specs.declared.Companion as Part
 use Rattle.device.specs.Chip.{fm3130}
 use Rattle.device.specs.Event.{eventOf}
 use Rattle.device.specs.declared.State.{State}
-use Rattle.rig.specs.Run.{runOf}
+use Rattle.lists.specs.Run.{runOf}
 use Rattle.lamps.specs.History.{History, moment, pastOf}
 
 pub no : {X : Type 0} → false ≡ true → X

@@ -19,7 +19,7 @@ use Rattle.wire.specs.Machine.{start, stop, clock}
 use Rattle.wire.specs.declared.Phase.the-variants.{Idle}
 use Rattle.device.specs.Event.{Happening, onWire, second, lost, gone, returned, happening}
 use Rattle.device.specs.declared.State.{State}
-use Rattle.rig.specs.Run.{runOf}
+use Rattle.lists.specs.Run.{runOf}
 use Rattle.lamps.specs.Log.{clocksOf}
 use Rattle.eight.specs.Lit.{lampAddress, isStop, isTick, count, Lit, Last, nothing, gave, readIn, isLit}
 use Rattle.lamps.specs.Step.{begun, reportOf}

@@ -19,7 +19,7 @@ use Rattle.wire.specs.declared.Phase.{Phase}
 use Rattle.wire.specs.declared.Phase.the-variants.{Idle, Slave, AddressHigh, AddressLow, Pointer, Write, Read}
 use Rattle.device.specs.Event.{Happening, onWire, second, lost, gone, returned}
 use Rattle.device.specs.declared.State.{State}
-use Rattle.rig.specs.Run.{runOf}
+use Rattle.lists.specs.Run.{runOf}
 use Rattle.lamps.specs.History.{Moment, History, happened, pastOf}
 use Rattle.lamps.specs.Log.{isClock, clocksIn, markOf}
 use Rattle.eight.specs.Lit.{lampAddress, isLit}

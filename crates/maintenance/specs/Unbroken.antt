@@ -9,7 +9,7 @@ use mathlib.Core.List.{List, [], _∷_}
 use Rattle.wire.specs.declared.Phase.the-variants.{Idle}
 use Rattle.device.specs.Event.{Happening}
 use Rattle.device.specs.declared.State.{State}
-use Rattle.rig.specs.Run.{runOf}
+use Rattle.lists.specs.Run.{runOf}
 use Rattle.lamps.specs.History.{History, moment, happened, pastOf}
 use Rattle.lamps.specs.Log.{isClock, markOf}
 use Rattle.eight.specs.Lit.{isFailure, none}

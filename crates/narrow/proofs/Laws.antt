@@ -8,8 +8,8 @@ use lib.Dec.{eqb}
 use borrow.Author.Tests.{eqb-true, eqb-false}
 use Rattle.wire.proofs.Tests.{by-test}
 use Rattle.device.specs.Numbers.{accepted}
-use Rattle.rig.specs.Run.{Outcome, outcomeOf}
-use Rattle.rig.proofs.Ends.{run-count, run-refused}
+use Rattle.lists.specs.Run.{Outcome, outcomeOf}
+use Rattle.lists.proofs.Ends.{run-count, run-refused}
 use Rattle.narrow.specs.Number.{NumberSettled}
 use Rattle.narrow.specs.Laws.{CountByNumber}
 

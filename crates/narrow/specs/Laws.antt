@@ -8,7 +8,7 @@ use mathlib.Core.List.{List}
 use lib.Dec.{eqb}
 use lib.ListN.{length}
 use Rattle.device.specs.Numbers.{accepted}
-use Rattle.rig.specs.Run.{outcomeOf}
+use Rattle.lists.specs.Run.{outcomeOf}
 
 abbrev pub CountByNumber : Type 0
 CountByNumber =

@@ -7,7 +7,7 @@
 use Prim.Native.Nat.{ℕ}
 use mathlib.Core.Path.{_≡_}
 use mathlib.Core.List.{List}
-use Rattle.rig.specs.Run.{Outcome, outcomeOf}
+use Rattle.lists.specs.Run.{Outcome, outcomeOf}
 
 pub record Numbered : Type 0 where
   pub number : ℕ

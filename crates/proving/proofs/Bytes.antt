@@ -9,7 +9,7 @@ use mathlib.Core.List.{List, [], _∷_}
 use native.Mathlib.Nat.{div-add-mod'}
 use lib.Dec.{eqb}
 use Rattle.device.specs.Event.{eventOf}
-use Rattle.rig.specs.Run.{runOf}
+use Rattle.lists.specs.Run.{runOf}
 use Rattle.eight.specs.Eight.{bit}
 use Rattle.lamps.specs.Step.{stepOf}
 use Rattle.lamps.specs.Statement.{answeredBy}

@@ -14,8 +14,8 @@ use Rattle.device.specs.Numbers.{accepted, wrongMemory, wrongState, unknownEven
 use Rattle.device.specs.declared.State.{State}
 use Rattle.image.specs.Image.{decodeOf}
 use Rattle.image.specs.Reading.{decodedSays}
-use Rattle.rig.specs.Run.{runOf, allKnown}
-use Rattle.rig.specs.Run as Plain
+use Rattle.lists.specs.Run.{runOf, allKnown}
+use Rattle.lists.specs.Run as Plain
 use Rattle.image.specs.declared.Decoded.{Decoded}
 use Rattle.image.specs.declared.Decoded.the-variants.{Good, Bad}
 use Rattle.lamps.specs.Step.{begun, reportOf}

@@ -17,7 +17,7 @@ use Rattle.device.specs.Chip.{memorySize}
 use Rattle.device.specs.Event.{eventOf}
 use Rattle.device.specs.declared.State.{State}
 use Rattle.image.specs.Image.{imageOf, decodeOf}
-use Rattle.rig.specs.Run.{runOf, allKnown}
+use Rattle.lists.specs.Run.{runOf, allKnown}
 use Rattle.image.specs.declared.Decoded.the-variants.{Good, Bad}
 use Rattle.lamps.specs.Step.{stepOf, reportOf}
 use Rattle.lamps.specs.Statement.{answeredBy, provenBy}

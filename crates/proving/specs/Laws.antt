@@ -15,8 +15,8 @@ use Rattle.device.specs.Chip.{memorySize}
 use Rattle.device.specs.Numbers.{accepted}
 use Rattle.device.specs.declared.State.{State}
 use Rattle.image.specs.Image.{decodeOf}
-use Rattle.rig.specs.Run.{runOf}
-use Rattle.rig.specs.Run as Plain
+use Rattle.lists.specs.Run.{runOf}
+use Rattle.lists.specs.Run as Plain
 use Rattle.image.specs.declared.Decoded.the-variants.{Good}
 use Rattle.lamps.specs.Step.{begun}
 use Rattle.lamps.specs.Statement.{provenBy, deserved, logged}

@@ -12,7 +12,7 @@ use Rattle.device.specs.Numbers.{accepted, wrongMemory, wrongState, unknownEven
 use Rattle.device.specs.Chip.{memorySize}
 use Rattle.device.specs.declared.State.{State}
 use Rattle.image.specs.Image.{imageOf, decodeOf}
-use Rattle.rig.specs.Run.{Ended, runOf, answersOver, allKnown, RanThrough}
+use Rattle.lists.specs.Run.{Ended, runOf, answersOver, allKnown, RanThrough}
 use Rattle.image.specs.declared.Decoded.{Decoded}
 use Rattle.image.specs.declared.Decoded.the-variants.{Good, Bad}
 use Rattle.lamps.specs.Step.{reportOf}

@@ -6,7 +6,7 @@ ghost use Prim.Native.Nat.{_≤_};
 ghost use lib.ListN.{length};
 ghost use Rattle.device.specs.Chip.{memorySize};
 ghost use Rattle.device.specs.Limits.{wellFormed};
-ghost use Rattle.rig.specs.Run.{allKnown};
+ghost use Rattle.lists.specs.Run.{allKnown};
 ghost use Rattle.proving.specs.Run.{RanWith, LampsSettled};
 use crate::Reached;
 use crate::Shown;
@@ -24,7 +24,7 @@ use image::MEMORY;
 use image::read::decode;
 use image::write::write_image;
 use lamps::Proving;
-use rig::run::all_known;
+use lists::all_known;
 
 // The bytes of a record.
 pub const RECORD: usize = 20;

@@ -44,7 +44,7 @@ use Rattle.frame.specs.Layout.{transfer, transferOf}
 use Rattle.image.specs.Image.{imageOf}
 use Rattle.inplace.specs.Desk.{isTicking}
 use Rattle.clocking.specs.Outgoing.{sideOf, fetchedFrom}
-use Rattle.rig.specs.Run.{answerTo}
+use Rattle.lists.specs.Run.{answerTo}
 
 -- The same byte of the same transfer, with so many clocks done and these bits.
 unfoldable pub withBits : Phase → ℕ → ℕ → Phase

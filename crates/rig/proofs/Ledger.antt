@@ -20,11 +20,11 @@ use Rattle.image.specs.Image.{imageOf, candidate}
 use Rattle.image.specs.Accepting.{isImage}
 use Rattle.image.proofs.Images.{candidate-of}
 use Rattle.image.proofs.Accepts.{image-well, image-written}
-use Rattle.rig.specs.Run.{answerTo, RanThrough}
+use Rattle.lists.specs.Run.{answerTo, RanThrough}
 use Rattle.rig.specs.Led.{Led, Rowed}
 use Rattle.clocking.specs.Clocking.{Accepted}
 use Rattle.resident.specs.Answering.{Answered}
-use Rattle.rig.proofs.Runs.{run-more, run-done, rest-kept}
+use Rattle.lists.proofs.Runs.{run-more, run-done, rest-kept}
 
 -- no event
 pub led-none : (es : List ℕ) (s : State) (m a : List ℕ) (i : ℕ) → i ≤ length es → wellFormed s ≡ true

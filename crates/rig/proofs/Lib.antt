@@ -1,8 +1,4 @@
 -- SPDX-License-Identifier: Apache-2.0
-pub mod Runs
-pub mod Ends
-pub mod Pieces
-pub mod Calls
 pub mod Unique
 pub mod Ledger
 pub mod Inside

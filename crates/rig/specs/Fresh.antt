@@ -11,11 +11,7 @@ use lib.ListN.{length}
 use Rattle.device.specs.Numbers.{accepted, wrongState}
 use Rattle.device.specs.Power.{fresh}
 use Rattle.image.specs.Image.{imageSize, imageOf}
-
--- What the entry returns, and the buffer it leaves.
-pub record Made : Type 0 where
-  pub number : ℕ
-  pub image : List ℕ
+use Rattle.image.specs.Made.{Made}
 
 -- 01, Entries: number 2 where "image is not 64 bytes", and nothing is written.
 unfoldable pub freshOf : List ℕ → Made

@@ -16,7 +16,7 @@ use Rattle.device.specs.Limits.{wellFormed}
 use Rattle.device.specs.declared.State.{State}
 use Rattle.image.specs.Image.{candidate}
 use Rattle.image.specs.Accepting.{isImage}
-use Rattle.rig.specs.Run.{following, runOf}
+use Rattle.lists.specs.Run.{following, runOf}
 
 -- From a state, a memory, answers and a place to those after some more events.
 pub record Led (es : List ℕ) (s : State) (m a : List ℕ) (i : ℕ) (s′ : State) (m′ a′ : List ℕ) (i′ : ℕ) : Type 0 where

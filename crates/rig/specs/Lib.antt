@@ -1,5 +1,4 @@
 -- SPDX-License-Identifier: Apache-2.0
 pub mod Run
-pub mod Calls
 pub mod Fresh
 pub mod Led

@@ -8,7 +8,7 @@ ghost use lib.Dec.{eqb};
 ghost use lib.ListN.{length, getD, set};
 ghost use Rattle.image.specs.Image.{imageSize, candidate};
 ghost use Rattle.image.specs.Accepting.{isImage};
-ghost use Rattle.rig.specs.Run.{allKnown};
+ghost use Rattle.lists.specs.Run.{allKnown};
 ghost use Rattle.clocking.specs.Clocking.{Accepted};
 ghost use Rattle.inplace.specs.Desk.{isTicking};
 ghost use Rattle.rig.specs.Led.{Rowed, Clocked, Ticked, Begun};

@@ -7,7 +7,8 @@ ghost use Prim.Native.Nat.{_≤_};
 ghost use lib.ListN.{length};
 ghost use Rattle.image.specs.Image.{candidate};
 ghost use Rattle.clocking.specs.Clocking.{Accepted};
-ghost use Rattle.rig.specs.Run.{allKnown, RanThrough, RunSettled};
+ghost use Rattle.lists.specs.Run.{allKnown, RanThrough};
+ghost use Rattle.rig.specs.Run.{RunSettled};
 ghost use Rattle.rig.specs.Fresh.{FreshSettled};
 use crate::Ran;
 use crate::rows::row;
@@ -22,19 +23,7 @@ use image::LENGTH;
 use image::MEMORY;
 use image::accept::is_image;
 use image::write::image_of;
-
-// Whether every event byte is one of the eight. All are tested, with no way out of the loop, so that many go at once.
-pub fn all_known(events: &[u8]) -> bool
-    ensures { λ r. ⌜ r ≡ allKnown (now (events .entry)) ⌝ }
-{
-    let mut known = true;
-    let mut i = 0;
-    while i < events.len() {
-        known = known & (events[i] <= 7);
-        i += 1;
-    }
-    known
-}
+use lists::all_known;
 
 // All events, from an accepted image. The answers go to the front of their buffer.
 pub fn run_events(image: &mut [u8], memory: &mut [u8], events: &[u8], answers: &mut [u8])

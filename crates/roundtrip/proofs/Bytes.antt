@@ -22,7 +22,7 @@ use Rattle.companion.specs.declared.Companion.{Companion}
 use Rattle.device.specs.Chip.{memorySize, fm3130}
 use Rattle.device.specs.Event.{happening, eventOn}
 use Rattle.device.specs.declared.State.{State}
-use Rattle.rig.specs.Run.{runOf}
+use Rattle.lists.specs.Run.{runOf}
 use Rattle.clocks.specs.Clocks.{nineClocks}
 use Rattle.transfers.proofs.Runs.{Leads, led, line-shown}
 use Rattle.transfers.proofs.Written.{onBus}

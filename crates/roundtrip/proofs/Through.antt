@@ -13,10 +13,10 @@ use lib.Seq.{take-append-seam}
 use borrow.Author.Tests.{le-leb, lt-ltb, eq-eqb, ne-eqb}
 use Rattle.device.specs.Chip.{memorySize}
 use Rattle.image.specs.Image.{imageOf}
-use Rattle.rig.specs.Run.{Ended, runOf, allKnown, answersOver}
+use Rattle.lists.specs.Run.{Ended, runOf, allKnown, answersOver}
 use Rattle.image.proofs.Images.{decode-image, image-decode}
-use Rattle.rig.proofs.Runs.{run-ok, outcome-written}
-use Rattle.rig.proofs.Pieces.{answers-length}
+use Rattle.lists.proofs.Runs.{run-ok, outcome-written}
+use Rattle.lists.proofs.Pieces.{answers-length}
 use Rattle.clocks.specs.Clocks.{clockEvent, nineClocks, linesOf}
 use Rattle.master.specs.Numbers.{most}
 use Rattle.clocks.specs.Events.{written, asked, opening, allWritten, askedOn, allAsked, writeEvents, readEvents}

@@ -7,7 +7,7 @@ use native.Mathlib.Omega.{arith}
 use lib.ListN.{length}
 use Rattle.companion.specs.Part.{guardOf}
 use Rattle.device.specs.declared.State.{State}
-use Rattle.rig.specs.Run.{runOf}
+use Rattle.lists.specs.Run.{runOf}
 use Rattle.clocks.specs.Events.{writeEvents}
 use Rattle.master.specs.Told.{flagsOf, bytesOf}
 use Rattle.roundtrip.specs.Stretch.{AllBytes, fetchedFrom}

@@ -15,7 +15,7 @@ use Rattle.device.specs.Numbers.{accepted}
 use Rattle.device.specs.Chip.{memorySize}
 use Rattle.device.specs.declared.State.{State}
 use Rattle.image.specs.Image.{decodeOf}
-use Rattle.rig.specs.Run as Run
+use Rattle.lists.specs.Run as Run
 use Rattle.image.specs.declared.Decoded.the-variants.{Good}
 use Rattle.master.specs.Numbers.{most}
 use Rattle.clocks.specs.Events.{writeCount, readCount}

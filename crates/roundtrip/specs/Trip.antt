@@ -16,7 +16,7 @@ use Rattle.bus.specs.declared.Power.the-variants.{On}
 use Rattle.companion.specs.Part.{guardOf}
 use Rattle.device.specs.Chip.{memorySize}
 use Rattle.device.specs.declared.State.{State}
-use Rattle.rig.specs.Run.{Ended, runOf}
+use Rattle.lists.specs.Run.{Ended, runOf}
 use Rattle.clocks.specs.Clocks.{linesOf}
 use Rattle.master.specs.Numbers.{most}
 use Rattle.clocks.specs.Events.{writeEvents, readEvents}

@@ -23,11 +23,11 @@ use Rattle.device.specs.Numbers.{accepted}
 use Rattle.device.specs.declared.State.{State}
 use Rattle.device.proofs.Cases.{tick-supplied, tick-unsupplied, no-tick}
 use Rattle.image.specs.Image.{decodeOf}
-use Rattle.rig.specs.Run.{runOf, allKnown}
-use Rattle.rig.specs.Run as Run
+use Rattle.lists.specs.Run.{runOf, allKnown}
+use Rattle.lists.specs.Run as Run
 use Rattle.image.specs.declared.Decoded.{Decoded}
 use Rattle.image.specs.declared.Decoded.the-variants.{Good, Bad}
-use Rattle.rig.proofs.Runs.{outcome-written}
+use Rattle.lists.proofs.Runs.{outcome-written}
 use Rattle.single.specs.Single.{Outcome, singleOf}
 use Rattle.single.specs.Laws.{AsTheListRun, SilentExactly, NothingExactly, SaysWhatChanged}
 use Rattle.single.proofs.Ways.{single-wrong-memory, single-wrong-image, single-unknown-event, single-short, single-answered}

@@ -20,7 +20,7 @@ use Rattle.device.specs.Power.{isSupplied}
 use Rattle.device.specs.Event.{eventOf, rolledIn}
 use Rattle.device.specs.Numbers.{accepted}
 use Rattle.device.specs.declared.State.{State}
-use Rattle.rig.specs.Run.{outcomeOf}
+use Rattle.lists.specs.Run.{outcomeOf}
 use Rattle.single.specs.Single.{singleOf}
 
 -- "Answer bytes stay the same." Of an accepted call: image, memory and answer byte, in the same buffer.

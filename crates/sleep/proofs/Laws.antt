@@ -10,12 +10,12 @@ use lib.ListN.{length}
 use Rattle.days.specs.After.{mostTicks}
 use Rattle.device.specs.Chip.{memorySize}
 use Rattle.image.specs.Image.{imageOf, decodeOf}
-use Rattle.rig.specs.Run.{Outcome}
-use Rattle.rig.specs.Fresh.{Made}
+use Rattle.lists.specs.Run.{Outcome}
+use Rattle.image.specs.Made.{Made}
 use Rattle.image.specs.declared.Decoded.{Decoded}
 use Rattle.image.specs.declared.Decoded.the-variants.{Good, Bad}
 use Rattle.image.proofs.Images.{image-decode, decode-image}
-use Rattle.rig.proofs.Runs.{outcome-wrong-image, outcome-written}
+use Rattle.lists.proofs.Runs.{outcome-wrong-image, outcome-written}
 use Rattle.sleep.specs.CatchUp.{ticks, caughtUp, catchUpOf}
 use Rattle.sleep.specs.Laws.{SameAsList, AsTheListRun, NoneLeavesAll, AcceptedAgain}
 use Rattle.sleep.proofs.Run.{caught-run, caught-none, caught-ok, ticks-known, ticks-length}

@@ -17,8 +17,8 @@ use Rattle.device.specs.Event.{happening, still, ticked, eventOf}
 use Rattle.device.specs.Limits.{wellFormed}
 use Rattle.device.specs.declared.State.{State}
 use Rattle.device.proofs.Cases.{tick-supplied, tick-unsupplied}
-use Rattle.rig.specs.Run.{runOf, allKnown}
-use Rattle.rig.proofs.Runs.{run-ok}
+use Rattle.lists.specs.Run.{runOf, allKnown}
+use Rattle.lists.proofs.Runs.{run-ok}
 use Rattle.sleep.specs.Ticks.{ticksOf}
 use Rattle.sleep.specs.CatchUp.{ticks, caughtUp}
 

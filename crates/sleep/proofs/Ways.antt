@@ -15,7 +15,7 @@ use Rattle.device.specs.Numbers.{accepted, wrongState, tooManyTicks}
 use Rattle.device.specs.declared.State.{State}
 use Rattle.image.specs.Image.{imageOf, candidate, decodeOf}
 use Rattle.image.specs.Accepting.{isImage}
-use Rattle.rig.specs.Fresh.{Made}
+use Rattle.image.specs.Made.{Made}
 use Rattle.image.specs.declared.Decoded.the-variants.{Good, Bad}
 use Rattle.image.proofs.Accepts.{image-read, image-written}
 use Rattle.sleep.specs.CatchUp.{caughtUp, CountedOn, catchUpOf, CatchUpSettled}

@@ -17,8 +17,8 @@ use Rattle.device.specs.Bus.{withCompanion}
 use Rattle.device.specs.Numbers.{accepted, wrongState, tooManyTicks}
 use Rattle.device.specs.declared.State.{State}
 use Rattle.image.specs.Image.{imageOf, decodeOf}
-use Rattle.rig.specs.Run.{runOf}
-use Rattle.rig.specs.Fresh.{Made}
+use Rattle.lists.specs.Run.{runOf}
+use Rattle.image.specs.Made.{Made}
 use Rattle.image.specs.declared.Decoded.{Decoded}
 use Rattle.image.specs.declared.Decoded.the-variants.{Good, Bad}
 use Rattle.sleep.specs.Ticks.{caughtOf}

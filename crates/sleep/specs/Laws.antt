@@ -12,7 +12,7 @@ use Rattle.days.specs.After.{mostTicks}
 use Rattle.device.specs.Chip.{memorySize}
 use Rattle.device.specs.declared.State.{State}
 use Rattle.image.specs.Image.{imageOf, decodeOf}
-use Rattle.rig.specs.Run.{outcomeOf}
+use Rattle.lists.specs.Run.{outcomeOf}
 use Rattle.image.specs.declared.Decoded.the-variants.{Good}
 use Rattle.sleep.specs.CatchUp.{ticks, caughtUp, catchUpOf}
 

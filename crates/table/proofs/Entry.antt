@@ -13,12 +13,12 @@ use Rattle.device.specs.Numbers.{accepted}
 use Rattle.device.specs.Event.{eventOf}
 use Rattle.device.specs.Answer.{pinShown}
 use Rattle.device.specs.declared.State.{State}
-use Rattle.rig.specs.Run.{Ended, answerTo, runOf, allKnown, outcomeOf}
-use Rattle.rig.specs.Calls.{Left, leftOf}
+use Rattle.lists.specs.Run.{Ended, answerTo, runOf, allKnown, outcomeOf}
+use Rattle.lists.specs.Calls.{Left, leftOf}
 use Rattle.image.proofs.Images.{image-decode}
-use Rattle.rig.proofs.Ends.{Accepted, accepted-number, accepted-by}
-use Rattle.rig.proofs.Pieces.{run-append, known-append}
-use Rattle.rig.proofs.Calls.{leaves-accepted, leaves-run, leaves-state, one-call}
+use Rattle.lists.proofs.Ends.{Accepted, accepted-number, accepted-by}
+use Rattle.lists.proofs.Pieces.{run-append, known-append}
+use Rattle.lists.proofs.Calls.{leaves-accepted, leaves-run, leaves-state, one-call}
 use Rattle.table.specs.Stored.{after, memoryAfter, clockEvent, AtData, Pulls}
 use Rattle.table.specs.Table.{lastLine}
 use Rattle.table.specs.Entry.{upToNinth, CallsStore, CallStores, CallsKeep, CallKeeps}

@@ -28,9 +28,9 @@ use Rattle.device.specs.Bus.{withCompanion}
 use Rattle.device.specs.Event.{eventOf, still}
 use Rattle.device.specs.Limits.{wellFormed}
 use Rattle.device.specs.declared.State.{State}
-use Rattle.rig.specs.Run.{Ended, runOf}
-use Rattle.rig.proofs.Pieces.{run-append}
-use Rattle.rig.proofs.Runs.{run-ok}
+use Rattle.lists.specs.Run.{Ended, runOf}
+use Rattle.lists.proofs.Pieces.{run-append}
+use Rattle.lists.proofs.Runs.{run-ok}
 use Rattle.device.proofs.Entry.{limits-of}
 use Rattle.table.specs.Stored.{after, memoryAfter, clockEvent, Rest, none, bit, tick, power, Byte, AtData, Pulls, StoredAt, AcknowledgedStored}
 use Rattle.table.proofs.Events.{clock-event, tick-event, power-event}

@@ -22,9 +22,9 @@ use Rattle.device.specs.Chip.{memorySize}
 use Rattle.device.specs.Event.{happening, eventOn}
 use Rattle.device.specs.Power.{fresh}
 use Rattle.image.specs.Image.{imageOf}
-use Rattle.rig.specs.Run.{runOf, allKnown, Outcome}
+use Rattle.lists.specs.Run.{runOf, allKnown, Outcome}
 use Rattle.image.proofs.Images.{decode-fresh}
-use Rattle.rig.proofs.Runs.{outcome-written}
+use Rattle.lists.proofs.Runs.{outcome-written}
 use Rattle.table.specs.Table.{Gives, exactEvents, exactAnswers, Table}
 
 -- K12, by the list run's outcome on the fresh image

@@ -29,7 +29,7 @@ use Rattle.device.specs.Chip.{memorySize, fm3130}
 use Rattle.device.specs.Desk.{aims, stores}
 use Rattle.device.specs.Event.{Happening, onWire, second, lost, gone, returned, happening, eventOf, eventOn}
 use Rattle.device.specs.declared.State.{State}
-use Rattle.rig.specs.Run.{runOf}
+use Rattle.lists.specs.Run.{runOf}
 use Rattle.table.specs.Stored.{after}
 use Rattle.table.specs.Protected.{Protected}
 use Rattle.table.specs.Throughout.{BeforeEach, ProtectedKept, Protecting, written, dark}

@@ -4,7 +4,7 @@
 use mathlib.Core.List.{[], _∷_}
 use Rattle.device.specs.Event.{eventOf}
 use Rattle.device.proofs.Valid.{event-valid, fresh-valid}
-use Rattle.rig.specs.Run.{runOf}
+use Rattle.lists.specs.Run.{runOf}
 use Rattle.table.specs.Valid.{StaysValid, FreshValid}
 
 pub stays-valid : StaysValid

@@ -1,6 +1,6 @@
 -- SPDX-License-Identifier: Apache-2.0
 -- Demand 2's two sentences about memory, of the entry itself: what calls of the list run leave, as one call or with the
--- list cut into several that hand image and memory on (`Leaves` of rig/specs/Calls.antt).
+-- list cut into several that hand image and memory on (`Leaves` of lists/specs/Calls.antt).
 --   upToNinth                        a list that ends with a byte and its ninth clock
 --   CallsStore, CallStores           an acknowledged memory byte is stored; the same of one call
 --   CallsKeep, CallKeeps             a protected address is unchanged; the same of one call
@@ -13,8 +13,8 @@ use lib.ListN.{getD}
 use Rattle.device.specs.Numbers.{accepted}
 use Rattle.device.specs.declared.State.{State}
 use Rattle.image.specs.Image.{decodeOf}
-use Rattle.rig.specs.Run.{outcomeOf}
-use Rattle.rig.specs.Calls.{Left, leftOf, Leaves}
+use Rattle.lists.specs.Run.{outcomeOf}
+use Rattle.lists.specs.Calls.{Left, leftOf, Leaves}
 use Rattle.image.specs.declared.Decoded.the-variants.{Good}
 use Rattle.table.specs.Stored.{clockEvent, Byte, AtData, StoredAt}
 use Rattle.table.specs.Protected.{Protected}

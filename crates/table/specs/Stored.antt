@@ -20,7 +20,7 @@ use Rattle.device.specs.Chip.{memorySize}
 use Rattle.device.specs.Event.{eventOf}
 use Rattle.device.specs.Limits.{wellFormed}
 use Rattle.device.specs.declared.State.{State}
-use Rattle.rig.specs.Run.{runOf}
+use Rattle.lists.specs.Run.{runOf}
 
 -- Auxiliary: state and memory after a list of events, one by one: the list run's own.
 abbrev pub after : State → List ℕ → List ℕ → State

@@ -16,7 +16,7 @@ use Rattle.device.specs.Chip.{memorySize}
 use Rattle.device.specs.Power.{fresh}
 use Rattle.device.specs.declared.State.{State}
 use Rattle.image.specs.Image.{imageOf}
-use Rattle.rig.specs.Run.{runOf, outcomeOf}
+use Rattle.lists.specs.Run.{runOf, outcomeOf}
 use Rattle.table.specs.Script.{clocksOf, sent, memoryWrite, companionWrite, withSetup, running, alarmed}
 
 pub data Case : Type 0 where

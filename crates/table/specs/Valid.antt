@@ -10,7 +10,7 @@ use mathlib.Core.List.{List}
 use Rattle.calendar.specs.Next.{isValid}
 use Rattle.device.specs.Power.{fresh}
 use Rattle.device.specs.declared.State.{State}
-use Rattle.rig.specs.Run.{runOf}
+use Rattle.lists.specs.Run.{runOf}
 
 abbrev pub HasDate : State → Type 0
 HasDate s = isValid (s .companion .core) ≡ true

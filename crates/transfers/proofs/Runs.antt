@@ -21,8 +21,8 @@ use Rattle.companion.specs.declared.Companion.{Companion}
 use Rattle.device.specs.Chip.{fm3130, Done, doneOf}
 use Rattle.device.specs.Event.{happening, eventOn, eventOf}
 use Rattle.device.specs.declared.State.{State}
-use Rattle.rig.specs.Run.{Ended, answerTo, runOf}
-use Rattle.rig.proofs.Pieces.{run-append}
+use Rattle.lists.specs.Run.{Ended, answerTo, runOf}
+use Rattle.lists.proofs.Pieces.{run-append}
 use Rattle.clocks.specs.Clocks.{clockEvent, clocksOf, isHigh, linesOf}
 
 -- a device on main power, of the machine's state

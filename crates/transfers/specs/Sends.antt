@@ -17,7 +17,7 @@ use Rattle.bus.specs.declared.Power.the-variants.{On}
 use Rattle.companion.specs.Registers.{registerBytes}
 use Rattle.companion.specs.Part.{loadedOf}
 use Rattle.device.specs.declared.State.{State}
-use Rattle.rig.specs.Run.{runOf}
+use Rattle.lists.specs.Run.{runOf}
 use Rattle.clocks.specs.Clocks.{clocksOf, linesOf}
 
 -- The Clocks with these lines of the master are answered by the bits of the byte, high bit first, each low too where the

@@ -15,7 +15,7 @@ use Rattle.bus.specs.declared.Power.the-variants.{On}
 use Rattle.companion.specs.Part.{guardOf}
 use Rattle.device.specs.Chip.{memorySize}
 use Rattle.device.specs.declared.State.{State}
-use Rattle.rig.specs.Run.{Ended, runOf}
+use Rattle.lists.specs.Run.{Ended, runOf}
 use Rattle.clocks.specs.Clocks.{nineClocks, writeTo, linesOf, lastLine}
 
 -- The data byte's ninth clock has the master's line at d.

@@ -14,7 +14,7 @@ use native.Mathlib.Omega.{arith}
 use Rattle.device.specs.Chip.{memorySize}
 use Rattle.device.specs.Limits.{wellFormed}
 use Rattle.device.proofs.Entry.{ready}
-use Rattle.rig.proofs.Runs.{known-at}
+use Rattle.lists.proofs.Runs.{known-at}
 use Rattle.capture.specs.declared.Verdict.the-variants.{Agree}
 use Rattle.capture.proofs.Replays.{section, part-length, found, stepped, left, left-end}
 use Rattle.capture.proofs.Replays.{turn-differs, turn-same, turn-state, turn-memory}

@@ -10,7 +10,7 @@ use borrow.Author.Tests.{not-true, not-false}
 use Rattle.device.specs.Chip.{memorySize}
 use Rattle.image.specs.Accepting.{isImage}
 use Rattle.image.proofs.Accepts.{image-read, image-not-read}
-use Rattle.rig.specs.Run.{allKnown}
+use Rattle.lists.specs.Run.{allKnown}
 use Rattle.holding.specs.declared.Standing.the-variants.{Known}
 use Rattle.holding.specs.Bus.{mayCall, standingOf}
 use Rattle.holding.proofs.Known.{one-byte}

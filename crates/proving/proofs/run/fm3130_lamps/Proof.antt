@@ -7,7 +7,7 @@ use lib.ListN.{length}
 use borrow.Author.Tests.{not-true, not-false}
 use Rattle.device.specs.Chip.{memorySize}
 use Rattle.image.specs.declared.Decoded.the-variants.{Good}
-use Rattle.rig.specs.Run.{allKnown}
+use Rattle.lists.specs.Run.{allKnown}
 use Rattle.image.specs.Image.{decodeOf}
 use Rattle.image.proofs.Images.{settled-decode, image-decode, decoded-length}
 use Rattle.proving.specs.Kept.{isKept}

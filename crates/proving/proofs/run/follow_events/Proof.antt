@@ -12,8 +12,8 @@ use Rattle.device.specs.Limits.{wellFormed}
 use Rattle.device.proofs.Entry.{ready}
 use Rattle.device.proofs.Wellformed.{event-ok}
 use Rattle.image.specs.Image.{imageOf}
-use Rattle.rig.specs.Run.{following, runOf}
-use Rattle.rig.proofs.Runs.{known-at, run-more, run-done, rest-kept}
+use Rattle.lists.specs.Run.{following, runOf}
+use Rattle.lists.proofs.Runs.{known-at, run-more, run-done, rest-kept}
 use Rattle.lamps.specs.Statement.{provenBy}
 use Rattle.proving.proofs.Loop.{proven-more, proven-end}
 use Rattle.proving.proofs.run.follow_events.Statement.{statement}

@@ -3,7 +3,7 @@
 -- Assumes nothing.
 use denote.Ref.{now}
 use borrow.Author.Needs.{needs}
-use Rattle.rig.proofs.Runs.{known-at}
+use Rattle.lists.proofs.Runs.{known-at}
 use Rattle.rig.proofs.Ledger.{rowed-one}
 use Rattle.rig.proofs.rows.single.Statement.{statement}
 use Rattle.rig.proofs.rows.single.Tie as tie

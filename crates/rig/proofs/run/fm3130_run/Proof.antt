@@ -10,9 +10,9 @@ use borrow.Author.Tests.{not-true, not-false}
 use Rattle.device.specs.Chip.{memorySize}
 use Rattle.image.specs.Accepting.{isImage}
 use Rattle.image.proofs.Accepts.{image-read, image-not-read}
-use Rattle.rig.specs.Run.{allKnown}
-use Rattle.rig.proofs.Runs.{outcome-wrong-memory, outcome-wrong-image, outcome-unknown-event}
-use Rattle.rig.proofs.Runs.{outcome-short-answers, outcome-done}
+use Rattle.lists.specs.Run.{allKnown}
+use Rattle.lists.proofs.Runs.{outcome-wrong-memory, outcome-wrong-image, outcome-unknown-event}
+use Rattle.lists.proofs.Runs.{outcome-short-answers, outcome-done}
 use Rattle.rig.proofs.run.fm3130_run.Statement.{statement}
 use Rattle.rig.proofs.run.fm3130_run.Tie as tie
 

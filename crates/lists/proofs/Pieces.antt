@@ -19,11 +19,11 @@ use Rattle.device.specs.Step.{stepOf}
 use Rattle.device.specs.declared.State.{State}
 use Rattle.device.proofs.Entry.{step-answered}
 use Rattle.image.specs.Image.{imageOf}
-use Rattle.rig.specs.Run.{following, answerTo, runOf, allKnown, Outcome, written, outcomeOf}
+use Rattle.lists.specs.Run.{following, answerTo, runOf, allKnown, Outcome, written, outcomeOf}
 use Rattle.image.proofs.Images.{decode-image, image-decode}
-use Rattle.rig.proofs.Runs.{run-ok}
-use Rattle.rig.proofs.Runs.{outcome-written}
-use Rattle.rig.proofs.Ends.{Accepted, accepted-outcome, accepted-by, run-again}
+use Rattle.lists.proofs.Runs.{run-ok}
+use Rattle.lists.proofs.Runs.{outcome-written}
+use Rattle.lists.proofs.Ends.{Accepted, accepted-outcome, accepted-by, run-again}
 
 -- the list is the events one by one: each as the entry for one event does it
 pub run-by-steps : (s : State) (m : List ℕ) (e : ℕ) (es : List ℕ) → length m ≡ memorySize → wellFormed s ≡ true → e < 8

@@ -15,12 +15,12 @@ use Rattle.device.specs.Numbers.{accepted}
 use Rattle.device.specs.Chip.{memorySize}
 use Rattle.device.specs.declared.State.{State}
 use Rattle.image.specs.Image.{decodeOf}
-use Rattle.rig.specs.Run.{runOf, allKnown, Outcome, refused, written, outcomeOf}
+use Rattle.lists.specs.Run.{runOf, allKnown, Outcome, refused, written, outcomeOf}
 use Rattle.image.specs.declared.Decoded.{Decoded}
 use Rattle.image.specs.declared.Decoded.the-variants.{Good, Bad}
 use Rattle.image.proofs.Images.{decode-image, image-decode}
-use Rattle.rig.proofs.Runs.{run-ok, outcome-wrong-memory, outcome-wrong-image, outcome-unknown-event}
-use Rattle.rig.proofs.Runs.{outcome-short-answers, outcome-written}
+use Rattle.lists.proofs.Runs.{run-ok, outcome-wrong-memory, outcome-wrong-image, outcome-unknown-event}
+use Rattle.lists.proofs.Runs.{outcome-short-answers, outcome-written}
 
 -- what number 0 says of the four buffers
 pub record Accepted (i m es a : List ℕ) : Type 0 where

@@ -13,7 +13,7 @@ use mathlib.Core.Path.{_≡_}
 use mathlib.Core.List.{List, [], _∷_, _++_}
 use lib.ListN.{length, take}
 use Rattle.device.specs.Numbers.{accepted}
-use Rattle.rig.specs.Run.{Outcome, outcomeOf}
+use Rattle.lists.specs.Run.{Outcome, outcomeOf}
 
 -- The two buffers that a call has for itself; image and memory are handed on.
 pub record Call : Type 0 where

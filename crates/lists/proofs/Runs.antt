@@ -22,8 +22,8 @@ use Rattle.device.specs.Limits.{wellFormed}
 use Rattle.device.specs.declared.State.{State}
 use Rattle.device.proofs.Wellformed.{event-ok}
 use Rattle.image.specs.Image.{imageOf, decodeOf}
-use Rattle.rig.specs.Run.{Ended, following, answerTo, runOf, RanThrough, allKnown}
-use Rattle.rig.specs.Run.{refused, written, outcomeWith, outcomeOf}
+use Rattle.lists.specs.Run.{Ended, following, answerTo, runOf, RanThrough, allKnown}
+use Rattle.lists.specs.Run.{refused, written, outcomeOf}
 use Rattle.image.specs.declared.Decoded.the-variants.{Good, Bad}
 
 -- the test of the events: what was seen of them, and the rest
@@ -117,5 +117,5 @@ module _ (i m es a : List ℕ) where
 
       -- what was done is the whole outcome
       pub outcome-done : (i′ m′ a′ : List ℕ) → allKnown es ≡ true → length es ≤ length a → RanThrough s m es a i′ m′ a′
-          → outcomeWith (record { number = accepted; count = length es }) i′ m′ a′ ≡ outcomeOf i m es a
+          → record { number = accepted; count = length es; image = i′; memory = m′; answers = a′ } ≡ outcomeOf i m es a
       outcome-done i′ m′ a′ k l r = rw (r .image, r .memory, r .answers) (sym (outcome-written k l))

@@ -7,10 +7,10 @@ use mathlib.Core.Bool.{_&&_}
 use denote.Ref.{now}
 use lib.ListN.{length, drop}
 use borrow.Author.Needs.{needs}
-use Rattle.rig.specs.Run.{allKnown}
-use Rattle.rig.proofs.Runs.{known-more, known-end}
-use Rattle.rig.proofs.run.all_known.Statement.{statement}
-use Rattle.rig.proofs.run.all_known.Tie as tie
+use Rattle.lists.specs.Run.{allKnown}
+use Rattle.lists.proofs.Runs.{known-more, known-end}
+use Rattle.lists.proofs.all_known.Statement.{statement}
+use Rattle.lists.proofs.all_known.Tie as tie
 
 abbrev Inv-loop : tie.InvT-loop
 Inv-loop events known₀ i₀ known i = (i ≤ length events) × ((known && allKnown (drop i events)) ≡ allKnown events)

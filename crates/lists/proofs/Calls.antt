@@ -15,14 +15,14 @@ use Rattle.wire.proofs.Tests.{and-split, and-join}
 use Rattle.device.specs.Numbers.{accepted}
 use Rattle.device.specs.declared.State.{State}
 use Rattle.image.specs.Image.{imageOf, decodeOf}
-use Rattle.rig.specs.Run.{Ended, runOf, allKnown, outcomeOf}
-use Rattle.rig.specs.Calls.{Call, eventsIn, Left, leftOf, onward, callsOf, AllAccepted, Leaves, AllRoom}
-use Rattle.rig.specs.Calls.{OneCall, CallsAsOne, OneAsCalls}
+use Rattle.lists.specs.Run.{Ended, runOf, allKnown, outcomeOf}
+use Rattle.lists.specs.Calls.{Call, eventsIn, Left, leftOf, onward, callsOf, AllAccepted, Leaves, AllRoom}
+use Rattle.lists.specs.Calls.{OneCall, CallsAsOne, OneAsCalls}
 use Rattle.image.specs.declared.Decoded.the-variants.{Good}
 use Rattle.image.proofs.Images.{decode-image, image-decode}
-use Rattle.rig.proofs.Runs.{run-ok, outcome-written}
-use Rattle.rig.proofs.Ends.{Accepted, accepted-number, accepted-by, run-again}
-use Rattle.rig.proofs.Pieces.{run-append, answers-length, known-append}
+use Rattle.lists.proofs.Runs.{run-ok, outcome-written}
+use Rattle.lists.proofs.Ends.{Accepted, accepted-number, accepted-by, run-again}
+use Rattle.lists.proofs.Pieces.{run-append, answers-length, known-append}
 
 -- what a run leaves, as a call leaves it
 abbrev pub leftBy : Ended → Left
