@@ -4,7 +4,7 @@
 -- the month of a day is the one of its share, or the one before; and it is one month alone.
 -- Assumes nothing.
 use mathlib.Core.Path.{_≡_, refl, sym, _∙_, ap, subst}
-use mathlib.Core.Bool.{Bool, true, false, cond, _&&_}
+use mathlib.Core.Bool.{Bool, true, false, _&&_}
 use Prim.Native.Nat.{ℕ, zero, suc, _+_, _*_, _-_, _/_, _%_, _≤_, _<_}
 use native.Mathlib.Omega.{arith}
 use native.Mathlib.Nat.{suc-add}
@@ -16,7 +16,7 @@ use Rattle.calendar.proofs.Tests.{and-left, and-right}
 use Rattle.calendar.proofs.Month.{month-length-limits}
 use Rattle.calendar.proofs.Instant.{month-start-next, month-start-first}
 use Rattle.century.proofs.Instants.{month-start-before}
-use Rattle.days.specs.Places.{InMonth}
+use Rattle.days.specs.Places.{InMonth, StandsIn}
 
 -- four years are one leap cycle
 month-length-cycle : (m y : ℕ) → monthLength m (y + 4) ≡ monthLength m y
@@ -138,49 +138,38 @@ module _ (d : ℕ) (h : d < 73000) where
       let e : shareOf d ≡ shareOf d - 1 + 1 = omega arith in
       record { known = omega arith; from = omega arith; to = subst (λ (k : ℕ). d < monthStart k) e l }
 
--- the same within four years: x is 1 where the day is before the month of its share there
+-- the same by the four years and the share in them
 abbrev pub shareIn : ℕ → ℕ
 shareIn d = (48 * (d % 1461) + 78) / 1461
 
-pub record FoundBy (d x : ℕ) : Type 0 where
-  pub some : x ≤ shareIn d
-  pub most : shareIn d - x ≤ 48
-  pub from : monthStart (shareIn d - x) ≤ d % 1461
-  pub inMonth : InMonth d (d / 1461 * 48 + (shareIn d - x))
-
 module _ (d : ℕ) (h : d < 73000) where
+  share-split : shareOf d ≡ d / 1461 * 48 + shareIn d
+  share-split = omega arith
+
   share-starts : monthStart (shareOf d) ≡ d / 1461 * 1461 + monthStart (shareIn d)
-  share-starts =
-      let e : shareOf d ≡ d / 1461 * 48 + shareIn d = omega arith in
-      ap monthStart e ∙ sym (month-start-four (d / 1461) (shareIn d))
+  share-starts = ap monthStart share-split ∙ sym (month-start-four (d / 1461) (shareIn d))
 
-  found-by : (x m : ℕ) → x ≤ shareIn d → m ≡ shareIn d - x → InMonth d (d / 1461 * 48 + m) → FoundBy d x
-  found-by x m l e t =
-      let f = month-start-four (d / 1461) m in
-      let s = ap monthStart e in
-      record {
-        some = l;
-        most = omega arith;
-        from = omega (arith, t .from);
-        inMonth = subst (λ (k : ℕ). InMonth d (d / 1461 * 48 + k)) e t;
-      }
+  pub found-there : d / 1461 * 1461 + monthStart (shareIn d) ≤ d → InMonth d (d / 1461 * 48 + shareIn d)
+  found-there l = subst (λ (k : ℕ). InMonth d k) share-split (in-share d h (omega (arith, share-starts)))
 
-  found-at : d % 1461 < monthStart (shareIn d) → (b : Bool) → eqb (shareIn d) 0 ≡ b → FoundBy d 1
-  found-at l true z =
-      absurd (omega (arith, ap monthStart (eqb-true (shareIn d) 0 z), month-start-first))
-  found-at l false z =
-      let n = eqb-false (shareIn d) 0 z in
-      let g : d < monthStart (shareOf d) = omega (arith, share-starts) in
-      let e : shareOf d - 1 ≡ d / 1461 * 48 + (shareIn d - 1) = omega arith in
-      found-by 1 (shareIn d - 1) (omega arith) (omega arith) (subst (λ (k : ℕ). InMonth d k) e (before-share d h g))
+  module _ (l : d < d / 1461 * 1461 + monthStart (shareIn d)) where
+    pub some-before : 1 ≤ shareIn d
+    some-before = share-some (d % 1461) (omega arith) (omega arith)
 
-  pub found-in : (b : Bool) → ltb (d % 1461) (monthStart (shareIn d)) ≡ b → FoundBy d (cond b 1 0)
-  found-in true t = found-at (ltb-true (d % 1461) (monthStart (shareIn d)) t) (eqb (shareIn d) 0) refl
-  found-in false t =
-      let l = ltb-false (d % 1461) (monthStart (shareIn d)) t in
-      let g : monthStart (shareOf d) ≤ d = omega (arith, share-starts) in
-      let e : shareOf d ≡ d / 1461 * 48 + shareIn d = omega arith in
-      found-by 0 (shareIn d) (omega arith) (omega arith) (subst (λ (k : ℕ). InMonth d k) e (in-share d h g))
+    pub found-before : InMonth d (d / 1461 * 48 + (shareIn d - 1))
+    found-before =
+        let s = some-before in
+        let e : shareOf d - 1 ≡ d / 1461 * 48 + (shareIn d - 1) = omega arith in
+        subst (λ (k : ℕ). InMonth d k) e (before-share d h (omega (arith, share-starts)))
+
+-- a day's place in its month, by the start in four years that the table has
+pub stands-found : (d q r start : ℕ) → InMonth d (q * 48 + r) → start ≡ monthStart r
+    → StandsIn d (record { month = q * 48 + r; past = d - (q * 1461 + start) })
+stands-found d q r start t e =
+    record {
+      inMonth = t;
+      past = ap (λ (n : ℕ). d - n) (ap (λ (n : ℕ). q * 1461 + n) e ∙ month-start-four q r);
+    }
 
 pub record MonthOf (d : ℕ) : Type 0 where
   pub index : ℕ

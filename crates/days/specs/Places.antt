@@ -8,14 +8,11 @@
 --   PlacedAt i w c     c is that calendar, for the month that the second's day is in
 --   momentOf c         where a valid calendar stands: its month, its day, the second of that day
 --   Standing m         m is such a place
---   isBefore d s       1 where the day d is before the day s
 --   StandsIn d p       p is the month that the day d is in, with its days before d
 --
 -- Assumes nothing.
 use mathlib.Core.Path.{_≡_}
-use mathlib.Core.Bool.{cond}
 use Prim.Native.Nat.{ℕ, _+_, _-_, _/_, _%_, _≤_, _<_}
-use lib.Dec.{ltb}
 use Rattle.calendar.specs.Field.{bcd}
 use Rattle.calendar.specs.Instant.{monthStart, monthIndex, dayNumber, timeOf}
 use Rattle.calendar.specs.declared.Calendar.{Calendar}
@@ -54,9 +51,6 @@ pub record Standing (m : Moment) : Type 0 where
   pub month : monthStart (m .month) ≤ m .day
   pub day : m .day < 36525
   pub second : m .second < 86400
-
-abbrev pub isBefore : ℕ → ℕ → ℕ
-isBefore d s = cond (ltb d s) 1 0
 
 pub record StandsIn (d : ℕ) (p : Place) : Type 0 where
   pub inMonth : InMonth d (p .month)

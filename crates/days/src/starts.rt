@@ -10,7 +10,7 @@ ghost use mathlib.Core.Path.{_≡_};
 ghost use Prim.Native.Nat.{_≤_, _<_};
 ghost use Rattle.calendar.specs.Instant.{monthStart};
 ghost use Rattle.days.specs.Table.{IsTable};
-ghost use Rattle.days.specs.Places.{isBefore, StandsIn};
+ghost use Rattle.days.specs.Places.{StandsIn};
 
 // The first day of each of the century's months, the day 01/01/00 being 0.
 pub const STARTS: [u16; 1200] = [
@@ -1296,15 +1296,13 @@ pub struct Place {
     pub past: u32,
 }
 
-// 1 where a day is before another, else 0.
-fn before(day: u32, start: u32) -> u32
-    ensures { λ r. ⌜ r ≡ isBefore day start ⌝ }
-{
-    if day < start { 1 } else { 0 }
-}
-
 // The month of this century or the next that a day is in, and its place there. No month starts more than 78 / 48 days
-// before its even share of the four years: so the day is in the month of its share, or in the one before.
+// before its even share of the four years: so the day is in the month of its share, or in the one before. Of 1,461 days only
+// 40 are in the one before, so the table is looked up again for these alone: a second look-up waits for the first one's
+// answer.
+//
+// The test is of the whole day, not of its rest: of the rest the compiler can tell the answer for the first and the last
+// place of the table, and then makes a jump for each of the places where it else makes one look-up.
 pub fn place_of(day: u32) -> Place
     requires { ⌜ day < 73000 ⌝ }
     ensures { λ r. ⌜ StandsIn day r ⌝ }
@@ -1312,10 +1310,16 @@ pub fn place_of(day: u32) -> Place
     let cycle = day / 1461;
     let rest = day % 1461;
     let share = (48 * rest + 78) / 1461;
-    let month = share - before(rest, first_start(share));
-    let start = first_start(month);
+    let start = cycle * 1461 + first_start(share);
+    if day < start {
+        let month = share - 1;
+        return Place {
+            month: cycle * 48 + month,
+            past: day - (cycle * 1461 + first_start(month)),
+        };
+    }
     Place {
-        month: cycle * 48 + month,
-        past: rest - start,
+        month: cycle * 48 + share,
+        past: day - start,
     }
 }
