@@ -8,7 +8,7 @@ use mathlib.Core.Bool.{Bool, true, false, cond, _&&_, _||_}
 use native.Mathlib.Omega.{arith}
 use native.Mathlib.Nat.{add-zero}
 use lib.Dec.{eqb, ltb}
-use borrow.Author.Tests.{eq-eqb, ne-eqb, lt-ltb}
+use borrow.Author.Tests.{eq-eqb, ne-eqb, eqb-true, eqb-false, lt-ltb}
 use Rattle.weights.specs.Weight.{has, only}
 use Rattle.calendar.specs.Field.{bit}
 use Rattle.calendar.specs.Next.{isValid, nextOf}
@@ -18,12 +18,12 @@ use Rattle.calendar.specs.declared.Calendar.{Calendar}
 use Rattle.calendar.proofs.Tests.{test-true, true-test}
 use Rattle.calendar.proofs.After.{after-valid}
 use Rattle.days.proofs.Later.{after-invalid, crossings-invalid}
-use Rattle.companion.specs.declared.Alarm.{Alarm}
 use Rattle.companion.specs.declared.Companion.{Companion}
 use Rattle.companion.specs.Map.{AF, CF, W, R, OSCEN}
+use Rattle.companion.specs.Change.{withTime, withRegisters}
 use Rattle.companion.specs.Control.{flagged, followed}
 use Rattle.companion.specs.Tick.{matches, toldOf, countedOf, tickOf}
-use Rattle.sleep.specs.Ticks.{ticksOf, rungWithin, caughtOf, leftOf}
+use Rattle.sleep.specs.Ticks.{ticksOf, rungWithin, caughtOf}
 
 -- 00h with its flags set: the flags are those, the rest is kept
 has-af : (k : ℕ) (a b : Bool) → has (flagged k a b) AF ≡ a
@@ -187,13 +187,44 @@ module _ (c : Companion) where
   ticks-some e zero h = absurd (h refl)
   ticks-some e (suc n) h = ticks-caught e n
 
--- what ticks leave of an invalid core
-pub invalid-left : (n k : ℕ) (a : Alarm) (c : Calendar) {x : ℕ} → isValid c ≡ false → x ≡ toldOf k false false
-    → record { control = x; core = c } ≡ leftOf n k a c
-unfolding afterOf
-invalid-left n k a c e t =
-    let v : isValid c && rungWithin n a c ≡ false = rw e in
-    let f : ltb 0 (crossings n c) ≡ false = ap (ltb 0) (crossings-invalid c e n) in
-    let control = t ∙ ap (λ (b : Bool). toldOf k b false) (sym v) ∙ ap (λ (b : Bool). toldOf k (isValid c && rungWithin n a c) b) (sym f) in
-    let core = sym (after-invalid c e n) in
-    λ i. record { control = control i; core = core i }
+-- flags that nothing raises stay as they are
+byte-split : (k : ℕ) → k / 128 * 128 + k / 64 % 2 * 64 + k / 32 % 2 * 32 + k % 32 ≡ k
+byte-split k =
+    let high : k / 64 ≡ k / 128 * 2 + k / 64 % 2 = omega arith in
+    let low : k / 32 ≡ k / 64 * 2 + k / 32 % 2 = omega arith in
+    omega arith
+
+same-flags : (k : ℕ) (a f : Bool) → has k AF ≡ a → has k CF ≡ f → flagged k a f ≡ k
+same-flags k true true p q =
+    omega (arith, byte-split k, eqb-true (k / 64 % 2) 1 p, eqb-true (k / 32 % 2) 1 q)
+same-flags k true false p q =
+    let n = eqb-false (k / 32 % 2) 1 q in
+    omega (arith, byte-split k, eqb-true (k / 64 % 2) 1 p)
+same-flags k false true p q =
+    let n = eqb-false (k / 64 % 2) 1 p in
+    omega (arith, byte-split k, eqb-true (k / 32 % 2) 1 q)
+same-flags k false false p q =
+    let n = eqb-false (k / 64 % 2) 1 p in
+    let m = eqb-false (k / 32 % 2) 1 q in
+    omega (arith, byte-split k)
+
+told-nothing : (k : ℕ) → toldOf k false false ≡ k
+told-nothing k =
+    ap (λ (x : Bool). flagged k x (has k CF || false)) (or-false (has k AF))
+    ∙ ap (flagged k (has k AF)) (or-false (has k CF))
+    ∙ same-flags k (has k AF) (has k CF) refl refl
+
+-- an invalid core stays and raises nothing: all that ticks do is to let 02h to 08h follow it
+pub invalid-caught : (n : ℕ) (c : Companion) → isValid (c .core) ≡ false
+    → withRegisters c (withTime (c .registers) (c .registers .control)
+    (followed (c .registers .control) (c .core) (c .registers .time)))
+    ≡ caughtOf n c
+unfolding caughtOf afterOf
+invalid-caught n c e =
+    rw (
+      e,
+      after-invalid (c .core) e n,
+      crossings-invalid (c .core) e n,
+      told-nothing (c .registers .control),
+    )
+    refl

@@ -12,7 +12,10 @@ use lib.ListN.{getD, set}
 use lib.Seq.{sets}
 use borrow.Author.Tests.{eq-eqb, ne-eqb, eqb-false}
 use Rattle.weights.specs.Weight.{has}
+use Rattle.calendar.specs.Next.{isValid}
 use Rattle.calendar.specs.declared.Calendar.{Calendar}
+use Rattle.companion.specs.declared.Alarm.{Alarm}
+use Rattle.companion.specs.declared.Companion.{Companion}
 use Rattle.companion.specs.Map.{W, R}
 use Rattle.companion.specs.Change.{withTime}
 use Rattle.companion.specs.Control.{followed}
@@ -22,8 +25,9 @@ use Rattle.device.specs.declared.State.{State}
 use Rattle.frame.specs.Layout.{powerOf}
 use Rattle.image.specs.Image.{calendarBytes, imageOf, calendarAt}
 use Rattle.sleep.specs.Ticks.{leftOf, caughtOf}
-use Rattle.sleep.specs.CatchUp.{alarmAt}
+use Rattle.sleep.specs.CatchUp.{alarmAt, followedOn, CountedOn}
 use Rattle.sleep.specs.declared.ticks.Left.{Left}
+use Rattle.sleep.proofs.Caught.{invalid-caught}
 
 -- the supplies of byte 25
 pub supply-off : (n : ℕ) → 1 < n → isSupplied (powerOf n) ≡ false
@@ -46,66 +50,88 @@ written s k time core =
     withCompanion s
     (record { registers = withTime (s .companion .registers) k time; core = core; address = s .companion .address })
 
+-- with other calendar registers alone
+abbrev timed : State → Calendar → State
+timed s time = written s (s .companion .registers .control) time (s .companion .core)
+
+-- what ticks leave, read from an image; and an image with it written over
+abbrev leavesOf : ℕ → List ℕ → Left
+leavesOf n i = leftOf n (getD i 0 0) (alarmAt i) (calendarAt i 15)
+
+abbrev pub leftOver : Left → List ℕ → List ℕ
+leftOver left i = sets (set i 0 (left .control)) 15 (calendarBytes (left .core))
+
 core-over : (s : State) (k : ℕ) (core : Calendar)
     → sets (set (imageOf s) 0 k) 15 (calendarBytes core) ≡ imageOf (written s k (s .companion .registers .time) core)
 unfolding imageOf
 core-over s k core = refl
 
-both-over : (s : State) (k : ℕ) (core : Calendar)
-    → sets (sets (set (imageOf s) 0 k) 15 (calendarBytes core)) 2 (calendarBytes core) ≡ imageOf (written s k core core)
+time-over : (s : State) (core : Calendar) → sets (imageOf s) 2 (calendarBytes core) ≡ imageOf (timed s core)
 unfolding imageOf
-both-over s k core = refl
+time-over s core = refl
 
--- what the ticks leave, read from an image
-abbrev pub leaves : ℕ → List ℕ → Left → Type 0
-leaves n i r = r ≡ leftOf n (getD i 0 0) (alarmAt i) (calendarAt i 15)
+-- 02h to 08h of an image follow as those of a state do
+follow-over : (s : State) (k : ℕ) (core : Calendar)
+    → followedOn k core (imageOf s) ≡ imageOf (timed s (followed k core (s .companion .registers .time)))
+follow-over s k core = by-choice (has k W || has k R)
+  where
+    by-choice : (b : Bool) → cond b (imageOf s) (sets (imageOf s) 2 (calendarBytes core))
+        ≡ imageOf (timed s (cond b (s .companion .registers .time) core))
+    by-choice true = refl
+    by-choice false = time-over s core
 
-abbrev pub holds : List ℕ → Bool
-holds i = has (getD i 0 0) W || has (getD i 0 0) R
+-- the two ways of following, by the code's two tests
+module _ (k : ℕ) (core : Calendar) (i : List ℕ) {w r : Bool} (p : w ≡ has k W) (q : r ≡ has k R) where
+  abbrev choice : Bool → List ℕ
+  choice b = cond b i (sets i 2 (calendarBytes core))
 
--- the code's two tests are those of the definition
-pub held : {a b x y t : Bool} → a ≡ x → b ≡ y → a || b ≡ t → x || y ≡ t
-held p q e = (λ i. sym p i || sym q i) ∙ e
+  tested : {t : Bool} → w || r ≡ t → choice t ≡ followedOn k core i
+  tested e = ap choice (sym e ∙ (λ x. p x || q x))
 
-module _ (s : State) (n : ℕ) where
+  pub follow-kept : w || r ≡ true → i ≡ followedOn k core i
+  follow-kept e = tested e
+
+  pub follow-written : w || r ≡ false → sets i 2 (calendarBytes core) ≡ followedOn k core i
+  follow-written e = tested e
+
+-- what ticks that count write over an image of a state
+module _ (n : ℕ) (s : State) where
   abbrev reached : List ℕ
   reached = imageOf (withCompanion s (caughtOf n (s .companion)))
 
-  abbrev Kept : List ℕ → Type 0
-  Kept i = (r : Left) → leaves n i r → holds i ≡ true → sets (set i 0 (r .control)) 15 (calendarBytes (r .core)) ≡ reached
+  -- of an invalid core nothing but what follows it
+  abbrev Stays : List ℕ → Type 0
+  Stays i = isValid (calendarAt i 15) ≡ false → followedOn (getD i 0 0) (calendarAt i 15) i ≡ reached
 
-  abbrev Followed : List ℕ → Type 0
-  Followed i =
-      (r : Left) → leaves n i r → holds i ≡ false
-      → sets (sets (set i 0 (r .control)) 15 (calendarBytes (r .core))) 2 (calendarBytes (r .core)) ≡ reached
+  stays : Stays (imageOf s)
+  unfolding imageOf calendarAt
+  stays v =
+      follow-over s (s .companion .registers .control) (s .companion .core)
+      ∙ ap (λ (c : Companion). imageOf (withCompanion s c)) (invalid-caught n (s .companion) v)
 
-  abbrev left : Left
-  left = leftOf n (s .companion .registers .control) (s .companion .registers .alarm) (s .companion .core)
+  -- of a valid one what they leave, and then what follows that
+  abbrev Goes : List ℕ → Type 0
+  Goes i = followedOn (getD i 0 0) (leavesOf n i .core) (leftOver (leavesOf n i) i) ≡ reached
 
-  -- 02h to 08h, kept or following
-  abbrev time-is : Calendar
-  time-is = followed (s .companion .registers .control) (left .core) (s .companion .registers .time)
-
-  kept : Kept (imageOf s)
+  goes : Goes (imageOf s)
   unfolding imageOf calendarAt caughtOf
-  kept r e h =
-      let t : time-is ≡ s .companion .registers .time =
-      ap (λ (b : Bool). cond b (s .companion .registers .time) (left .core)) h in
-      ap (λ (r : Left). sets (set (imageOf s) 0 (r .control)) 15 (calendarBytes (r .core))) e
-      ∙ core-over s (left .control) (left .core)
-      ∙ ap (λ (t : Calendar). imageOf (written s (left .control) t (left .core))) (sym t)
+  goes =
+      let left = leavesOf n (imageOf s) in
+      ap (followedOn (s .companion .registers .control) (left .core)) (core-over s (left .control) (left .core))
+      ∙ follow-over (written s (left .control) (s .companion .registers .time) (left .core))
+      (s .companion .registers .control) (left .core)
 
-  follows : Followed (imageOf s)
-  unfolding imageOf calendarAt caughtOf
-  follows r e h =
-      let t : time-is ≡ left .core = ap (λ (b : Bool). cond b (s .companion .registers .time) (left .core)) h in
-      ap (λ (r : Left). sets (sets (set (imageOf s) 0 (r .control)) 15 (calendarBytes (r .core))) 2 (calendarBytes (r .core))) e
-      ∙ both-over s (left .control) (left .core)
-      ∙ ap (λ (t : Calendar). imageOf (written s (left .control) t (left .core))) (sym t)
+-- the same of any list that is such an image, step by step as the code goes
+module _ (n : ℕ) (i j : List ℕ) (core : Calendar) (c : core ≡ calendarAt i 15) where
+  pub counted-invalid : isValid core ≡ false → j ≡ followedOn (getD i 0 0) core i → CountedOn n i j
+  counted-invalid v w s e =
+      w ∙ ap (λ (c : Calendar). followedOn (getD i 0 0) c i) c
+      ∙ subst (Stays n s) (sym e) (stays n s) (ap isValid (sym c) ∙ v)
 
-  module _ (i : List ℕ) (e : i ≡ imageOf s) where
-    pub counted-kept : Kept i
-    counted-kept = subst Kept (sym e) kept
-
-    pub counted-followed : Followed i
-    counted-followed = subst Followed (sym e) follows
+  pub counted-valid : (alarm : Alarm) → alarm ≡ alarmAt i → (r : Left) → r ≡ leftOf n (getD i 0 0) alarm core
+      → (k : List ℕ) → k ≡ leftOver r i → j ≡ followedOn (getD i 0 0) (r .core) k → CountedOn n i j
+  counted-valid alarm a r l k w f s e =
+      let same : r ≡ leavesOf n i = l ∙ (λ x. leftOf n (getD i 0 0) (a x) (c x)) in
+      f ∙ ap (followedOn (getD i 0 0) (r .core)) w
+      ∙ ap (λ (r : Left). followedOn (getD i 0 0) (r .core) (leftOver r i)) same
+      ∙ subst (Goes n s) (sym e) (goes n s)

@@ -1,24 +1,29 @@
 -- SPDX-License-Identifier: Apache-2.0
 -- Catching up (02, number 7): many ticks on a state's image in one call. `CatchUpSettled` is the entry's whole outcome.
 --   ticks, caughtUp      n events of byte 4; the state that they lead to as a list
---   alarmAt, CountedOn   bytes 9 to 13 as an alarm; ticks that count, on a state's image
+--   alarmAt, followedOn  bytes 9 to 13 as an alarm; bytes 2 to 8 take a core, unless R or W is 1
+--   CountedOn            ticks that count, on a state's image
 --   caughtOn, catchUpOf  the tests in the order of the numbers
 --   CatchUpSettled       the entry's contract
 -- Assumes nothing.
 use Prim.Native.Nat.{ℕ}
 use mathlib.Core.Path.{_≡_}
-use mathlib.Core.Bool.{cond}
+use mathlib.Core.Bool.{cond, _||_}
 use mathlib.Core.List.{List, []}
 use lib.Dec.{leb}
 use lib.ListN.{replicate, getD}
+use lib.Seq.{sets}
+use Rattle.weights.specs.Weight.{has}
+use Rattle.calendar.specs.declared.Calendar.{Calendar}
+use Rattle.companion.specs.Map.{W, R}
 use Rattle.companion.specs.declared.Alarm.{Alarm}
 use Rattle.days.specs.After.{mostTicks}
 use Rattle.device.specs.Bus.{withCompanion}
 use Rattle.device.specs.Numbers.{accepted, wrongState, tooManyTicks}
 use Rattle.device.specs.declared.State.{State}
-use Rattle.image.specs.Image.{imageOf, decodeOf}
-use Rattle.lists.specs.Run.{runOf}
+use Rattle.image.specs.Image.{calendarBytes, imageOf, decodeOf}
 use Rattle.image.specs.Made.{Made}
+use Rattle.lists.specs.Run.{runOf}
 use Rattle.image.specs.declared.Decoded.{Decoded}
 use Rattle.image.specs.declared.Decoded.the-variants.{Good, Bad}
 use Rattle.sleep.specs.Ticks.{caughtOf}
@@ -42,6 +47,10 @@ alarmAt i =
       date = getD i 12 0;
       month = getD i 13 0;
     }
+
+-- Auxiliary: what `companion/specs/Control.followed` says of 02h to 08h, on an image.
+abbrev pub followedOn : ℕ → Calendar → List ℕ → List ℕ
+followedOn control core i = cond (has control W || has control R) i (sets i 2 (calendarBytes core))
 
 -- Auxiliary: the image of a state becomes that of the state after n ticks that count.
 abbrev pub CountedOn : ℕ → List ℕ → List ℕ → Type 0

@@ -7,9 +7,9 @@ ghost use lib.ListN.{length, set};
 ghost use lib.Seq.{sets};
 ghost use Rattle.days.specs.After.{mostTicks};
 ghost use Rattle.image.specs.Image.{imageSize, calendarBytes};
-ghost use Rattle.sleep.specs.CatchUp.{alarmAt, CountedOn};
+ghost use Rattle.sleep.specs.CatchUp.{alarmAt, followedOn, CountedOn};
 use crate::ticks::Left;
-use crate::ticks::counted;
+use crate::ticks::advanced;
 use calendar::Calendar;
 use companion::Alarm;
 use companion::map::R;
@@ -60,18 +60,32 @@ fn write_time(calendar: Calendar, image: &mut [u8])
     image[8] = calendar.year;
 }
 
-// Ticks that count, on the image of a state: the core goes on by all of them, the flags of all rise, and 02h to 08h take
-// the last core unless R or W is 1.
+// Lets 02h to 08h take the core, unless R or W is 1: then they stay.
+fn let_time_follow(control: u8, core: Calendar, image: &mut [u8])
+    requires { ⌜ length (now image) ≡ imageSize ⌝ }
+    ensures { λ _. ⌜ now (image .exit) ≡ followedOn control core (now (image .entry)) ⌝ }
+{
+    if has(control, W) | has(control, R) {
+        return;
+    }
+    write_time(core, image);
+}
+
+// Ticks that count, on the image of a state: the core goes on by all of them, the flags of all rise, and 02h to 08h follow
+// the last core. An invalid core stays and raises nothing, so that nothing but 02h to 08h is written: it has a way of its
+// own to the end, as the compiler merges two ways that meet in one value before it writes, and a valid core pays for it.
 pub(crate) fn count(image: &mut [u8], n: u32)
     requires { ⌜ (length (now image) ≡ imageSize) × (0 < n) × (n ≤ mostTicks) ⌝ }
     ensures { λ _. ⌜ CountedOn n (now (image .entry)) (now (image .exit)) ⌝ }
 {
     let control = image[0];
-    let last = counted(control, alarm_at(image), calendar_at(image, 15), n);
-    let core = last.core;
-    write_left(last, image);
-    if has(control, W) | has(control, R) {
+    let core = calendar_at(image, 15);
+    if !core.is_valid() {
+        let_time_follow(control, core, image);
         return;
     }
-    write_time(core, image);
+    let last = advanced(control, alarm_at(image), core, n);
+    let reached = last.core;
+    write_left(last, image);
+    let_time_follow(control, reached, image);
 }

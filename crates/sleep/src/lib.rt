@@ -3,8 +3,8 @@
 // of its own: a host that never sleeps links nothing of it.
 //
 //   search.rt   whether one of many seconds rings the alarm
-//   ticks.rt    what many ticks leave of 00h and of the core, by value
-//   bytes.rt    the same on an image: no byte is written but those that ticks change
+//   ticks.rt    what many ticks leave of 00h and of a valid core, by value
+//   bytes.rt    many ticks on an image: no byte is written but those that ticks change
 //   lib.rt      the entry
 ghost use mathlib.Core.Path.{_≡_};
 ghost use Rattle.sleep.specs.CatchUp.{CatchUpSettled};
@@ -18,7 +18,7 @@ use weights::has;
 
 mod bytes;
 mod search;
-pub mod ticks;
+mod ticks;
 
 // The ticks of a leap year.
 pub const MOST_TICKS: u64 = 31622400;

@@ -1,5 +1,5 @@
 // SPDX-License-Identifier: Apache-2.0
-// Many ticks by value, as the ticks one by one would leave 00h and the core.
+// Many ticks of a valid core by value, as the ticks one by one would leave 00h and the core.
 ghost use mathlib.Core.Path.{_≡_};
 ghost use Prim.Native.Nat.{_≤_, _<_};
 ghost use lib.Dec.{T};
@@ -20,7 +20,7 @@ pub struct Left {
 }
 
 // Ticks that count, of a valid core: it goes on by all of them, and the flags of all rise.
-fn advanced(control: u8, alarm: Alarm, core: Calendar, n: u32) -> Left
+pub(crate) fn advanced(control: u8, alarm: Alarm, core: Calendar, n: u32) -> Left
     requires { ⌜ (T (isValid core)) × (0 < n) × (n ≤ mostTicks) ⌝ }
     ensures { λ r. ⌜ r ≡ leftOf n control alarm core ⌝ }
 {
@@ -31,19 +31,5 @@ fn advanced(control: u8, alarm: Alarm, core: Calendar, n: u32) -> Left
     Left {
         control: told(control, rung, last.century),
         core: calendar,
-    }
-}
-
-// The same of any core: an invalid one stays and raises nothing.
-pub fn counted(control: u8, alarm: Alarm, core: Calendar, n: u32) -> Left
-    requires { ⌜ (0 < n) × (n ≤ mostTicks) ⌝ }
-    ensures { λ r. ⌜ r ≡ leftOf n control alarm core ⌝ }
-{
-    if core.is_valid() {
-        return advanced(control, alarm, core, n);
-    }
-    Left {
-        control: told(control, false, false),
-        core: core,
     }
 }
