@@ -61,10 +61,14 @@ module _ (i m es a : List ℕ) where
     from (not-done n e) = let z : suc n ≡ 0 = rw e at h in absurd (omega arith)
 
   -- under every number but 0 nothing is written, and the count is 0
-  pub run-refused : (outcomeOf i m es a .number ≡ accepted → ⊥)
-      → outcomeOf i m es a ≡ refused (outcomeOf i m es a .number) i m a
+  abbrev Untouched : Type 0
+  Untouched =
+      outcomeOf i m es a
+      ≡ record { number = outcomeOf i m es a .number; count = 0; image = i; memory = m; answers = a }
+
+  pub run-refused : (outcomeOf i m es a .number ≡ accepted → ⊥) → Untouched
   run-refused h = from (ends i m es a) where
-    from : Ends i m es a → outcomeOf i m es a ≡ refused (outcomeOf i m es a .number) i m a
+    from : Ends i m es a → Untouched
     from (done c) = absurd (h (accepted-number c))
     from (not-done n e) = rw e
 

@@ -73,7 +73,7 @@ fn let_time_follow(control: u8, core: Calendar, image: &mut [u8])
 
 // Ticks that count, on the image of a state: the core goes on by all of them, the flags of all rise, and 02h to 08h follow
 // the last core. An invalid core stays and raises nothing, so that nothing but 02h to 08h is written: it has a way of its
-// own to the end, as the compiler merges two ways that meet in one value before it writes, and a valid core pays for it.
+// own to the end.
 pub(crate) fn count(image: &mut [u8], n: u32)
     requires { ⌜ (length (now image) ≡ imageSize) × (0 < n) × (n ≤ mostTicks) ⌝ }
     ensures { λ _. ⌜ CountedOn n (now (image .entry)) (now (image .exit)) ⌝ }
