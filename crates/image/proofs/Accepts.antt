@@ -133,17 +133,17 @@ module _ (i : List ℕ) (b : (k : ℕ) → getD i k 0 < 256) where
 
   -- what the code tests of bytes 0 to 24
   pub places-tested :
-      (ltb (wordAt i 20 / 0x1000000) 0x20
-      && ((leb (wordAt i 20 / 0x10000 % 0x100) 14
-      && ((ltb (wordAt i 0 / 0x100 % 0x80) 0x40
-      && (((((ltb (wordAt i 0 / 0x10000 % 0x100) 0x80 && ltb (wordAt i 0 / 0x1000000) 0x80)
-      && ltb (wordAt i 4 % 0x100) 0x40) && ltb (wordAt i 4 / 0x100 % 0x100) 8)
+      (ltb (getD i 23 0) 0x20
+      && (leb (getD i 22 0) 14
+      && (((((((ltb (wordAt i 0 / 0x100 % 0x80) 0x40 && ltb (wordAt i 0 / 0x10000 % 0x100) 0x80)
+      && ltb (wordAt i 0 / 0x1000000) 0x80)
+      && (((ltb (wordAt i 4 % 0x100) 0x40 && ltb (wordAt i 4 / 0x100 % 0x100) 8)
       && ltb (wordAt i 4 / 0x10000 % 0x100) 0x40) && ltb (wordAt i 4 / 0x1000000) 0x20))
-      && ((ltb (wordAt i 8 / 0x1000000 % 0x80) 0x40 && ltb (wordAt i 12 % 0x80) 0x40)
-      && ltb (wordAt i 12 / 0x100 % 0x80) 0x20)))
-      && (((((ltb (wordAt i 12 / 0x1000000) 0x80 && ltb (wordAt i 16 % 0x100) 0x80)
-      && ltb (wordAt i 16 / 0x100 % 0x100) 0x40) && ltb (wordAt i 16 / 0x10000 % 0x100) 8)
-      && ltb (wordAt i 16 / 0x1000000) 0x40) && ltb (wordAt i 20 % 0x100) 0x20))) ≡ placesWithin i
+      && ltb (wordAt i 8 / 0x1000000 % 0x80) 0x40)
+      && ((ltb (wordAt i 12 % 0x80) 0x40 && ltb (wordAt i 12 / 0x100 % 0x80) 0x20) && ltb (wordAt i 12 / 0x1000000) 0x80))
+      && (((ltb (wordAt i 16 % 0x100) 0x80 && ltb (wordAt i 16 / 0x100 % 0x100) 0x40)
+      && ltb (wordAt i 16 / 0x10000 % 0x100) 8) && ltb (wordAt i 16 / 0x1000000) 0x40))
+      && ltb (wordAt i 18 / 0x10000 % 0x100) 0x20))) ≡ placesWithin i
   unfolding isWithin registersWithin alarmWithin width.isWithin calendarAt
   places-tested =
       rw (
@@ -162,11 +162,10 @@ module _ (i : List ℕ) (b : (k : ℕ) → getD i k 0 < 256) where
         byte-1 16,
         byte-2 16,
         byte-3 16,
-        byte-0 20,
-        byte-2 20,
-        byte-3 20,
+        byte-2 18,
         address-within,
       )
+      (simp and-assoc)
 
 -- a number that stands for supplies is that of the supplies it stands for
 power-stands : (p : ℕ) → leb p 2 ≡ true → powerNumber (powerOf p) ≡ p

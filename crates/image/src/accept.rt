@@ -49,9 +49,9 @@ fn has_end(image: &[u8]) -> bool
         & (word(image, 60) == 0x0130_3100)
 }
 
-// The limits of bytes 0 to 24, the registers, the core and the two addresses: each byte by its place in its word. The words
-// begin at multiples of four, so that none lies in two of the stores by which a caller copies an image (see `has_end`), and
-// each has the name of its first byte. The tests are joined in the order of the definition that they meet.
+// The limits of bytes 0 to 24, the registers, the core and the two addresses: each byte by its place in its word, or alone. No
+// word crosses byte 16, for the reason that `has_end` has. The tests of one word stand together, so that they become one; all
+// are joined in the order of the definition that they meet.
 fn places_within(image: &[u8]) -> bool
     requires { ⌜ length (now image) ≡ imageSize ⌝ }
     ensures { λ r. ⌜ r ≡ placesWithin (now (image .entry)) ⌝ }
@@ -61,25 +61,25 @@ fn places_within(image: &[u8]) -> bool
     let from_year = word(image, 8);
     let from_alarm_date = word(image, 12);
     let from_core_minutes = word(image, 16);
-    let from_core_month = word(image, 20);
-    (from_core_month / 0x100_0000 < 0x20)
-        & ((from_core_month / 0x1_0000 % 0x100 <= 14)
-            & ((from_control / 0x100 % 0x80 < 0x40)
-                & ((from_control / 0x1_0000 % 0x100 < 0x80)
-                    & (from_control / 0x100_0000 < 0x80)
-                    & (from_hours % 0x100 < 0x40)
+    let from_core_day = word(image, 18);
+    (image[23] < 0x20)
+        & ((image[22] <= 14)
+            & (((from_control / 0x100 % 0x80 < 0x40)
+                & (from_control / 0x1_0000 % 0x100 < 0x80)
+                & (from_control / 0x100_0000 < 0x80))
+                & ((from_hours % 0x100 < 0x40)
                     & (from_hours / 0x100 % 0x100 < 8)
                     & (from_hours / 0x1_0000 % 0x100 < 0x40)
                     & (from_hours / 0x100_0000 < 0x20))
-                & ((from_year / 0x100_0000 % 0x80 < 0x40)
-                    & (from_alarm_date % 0x80 < 0x40)
-                    & (from_alarm_date / 0x100 % 0x80 < 0x20)))
-            & ((from_alarm_date / 0x100_0000 < 0x80)
-                & (from_core_minutes % 0x100 < 0x80)
-                & (from_core_minutes / 0x100 % 0x100 < 0x40)
-                & (from_core_minutes / 0x1_0000 % 0x100 < 8)
-                & (from_core_minutes / 0x100_0000 < 0x40)
-                & (from_core_month % 0x100 < 0x20)))
+                & (from_year / 0x100_0000 % 0x80 < 0x40)
+                & ((from_alarm_date % 0x80 < 0x40)
+                    & (from_alarm_date / 0x100 % 0x80 < 0x20)
+                    & (from_alarm_date / 0x100_0000 < 0x80))
+                & ((from_core_minutes % 0x100 < 0x80)
+                    & (from_core_minutes / 0x100 % 0x100 < 0x40)
+                    & (from_core_minutes / 0x1_0000 % 0x100 < 8)
+                    & (from_core_minutes / 0x100_0000 < 0x40))
+                & (from_core_day / 0x1_0000 % 0x100 < 0x20)))
 }
 
 // A byte that comes in, 0 to 8 of its clocks done: only their bits can be set; and one that waits for its acknowledge is

@@ -1,5 +1,5 @@
 -- SPDX-License-Identifier: Apache-2.0
--- Each byte by its place in its word.
+-- Each byte by its place in its word, or alone.
 -- Assumes nothing.
 use native.Mathlib.Omega.{arith}
 use denote.Ref.{now}
@@ -26,17 +26,24 @@ word-requires-5 c κs = search needs
 word-requires-6 : tie.Need-word-requires-6
 word-requires-6 c κs = search needs
 
+shared-slice-read-result : tie.Need-shared-slice-read-result
+shared-slice-read-result c = search needs
+
+shared-slice-read-result-2 : tie.Need-shared-slice-read-result-2
+shared-slice-read-result-2 c = search needs
+
 returns : tie.Need-returns
 returns c =
-    let k = c .before .before .before .before .before .before in
+    let w = c .before .before in
+    let k = w .before .before .before .before .before .before in
     let i = now (k .before .args .image) in
     rw (
-      c .before .before .before .before .before .word .ensures,
-      c .before .before .before .before .word2 .ensures,
-      c .before .before .before .word3 .ensures,
-      c .before .before .word4 .ensures,
-      c .before .word5 .ensures,
-      c .word6 .ensures,
+      w .before .before .before .before .before .word .ensures,
+      w .before .before .before .before .word2 .ensures,
+      w .before .before .before .word3 .ensures,
+      w .before .before .word4 .ensures,
+      w .before .word5 .ensures,
+      w .word6 .ensures,
     )
     (places-tested i (λ n. omega (arith, k .shared-slice-known .given n)))
 
@@ -50,4 +57,6 @@ places-within-spec =
     word-requires-4
     word-requires-5
     word-requires-6
+    shared-slice-read-result
+    shared-slice-read-result-2
     returns)
