@@ -16,10 +16,10 @@ use frame::bytes::copy;
 use frame::layout::power_number;
 use frame::layout::transfer_of;
 
-// An image with a calendar's seven bytes from a place on.
-fn with_calendar(mut image: [u8; LENGTH], at: usize, calendar: Calendar) -> [u8; LENGTH]
-    requires { ⌜ at ≤ 15 ⌝ }
-    ensures { λ r. ⌜ r ≡ sets image at (calendarBytes calendar) ⌝ }
+// Writes a calendar over seven bytes of an image, from a place on.
+pub fn write_calendar(calendar: Calendar, image: &mut [u8], at: usize)
+    requires { ⌜ (length (now image) ≡ imageSize) × (at ≤ 57) ⌝ }
+    ensures { λ _. ⌜ now (image .exit) ≡ sets (now (image .entry)) at (calendarBytes calendar) ⌝ }
 {
     image[at] = calendar.seconds;
     image[at + 1] = calendar.minutes;
@@ -28,68 +28,23 @@ fn with_calendar(mut image: [u8; LENGTH], at: usize, calendar: Calendar) -> [u8;
     image[at + 4] = calendar.date;
     image[at + 5] = calendar.month;
     image[at + 6] = calendar.year;
-    image
 }
 
-// An image with registers as its first 15 bytes.
-fn with_registers(mut image: [u8; LENGTH], registers: Registers) -> [u8; LENGTH]
-    ensures { λ r. ⌜ r ≡ sets image 0 (registerBytes registers) ⌝ }
+// Writes registers over an image's first 15 bytes.
+fn write_registers(registers: Registers, image: &mut [u8])
+    requires { ⌜ length (now image) ≡ imageSize ⌝ }
+    ensures { λ _. ⌜ now (image .exit) ≡ sets (now (image .entry)) 0 (registerBytes registers) ⌝ }
 {
     let time = registers.time;
-    let alarm = registers.alarm;
     image[0] = registers.control;
     image[1] = registers.trim;
-    image = with_calendar(image, 2, time);
-    image[9] = alarm.seconds;
-    image[10] = alarm.minutes;
-    image[11] = alarm.hours;
-    image[12] = alarm.date;
-    image[13] = alarm.month;
+    write_calendar(time, image, 2);
+    image[9] = registers.alarm.seconds;
+    image[10] = registers.alarm.minutes;
+    image[11] = registers.alarm.hours;
+    image[12] = registers.alarm.date;
+    image[13] = registers.alarm.month;
     image[14] = registers.setup;
-    image
-}
-
-// An image with a state's bytes 22 to 29: the addresses, the supplies, and where a transfer stands.
-fn with_bus(mut image: [u8; LENGTH], state: State) -> [u8; LENGTH]
-    ensures { λ r. ⌜ r ≡ sets image 22 (busBytes state) ⌝ }
-{
-    let power = state.power;
-    let phase = state.phase;
-    let transfer = transfer_of(phase);
-    image[22] = state.companion.address;
-    image[23] = (state.address / 256) as u8;
-    image[24] = (state.address % 256) as u8;
-    image[25] = power_number(power);
-    image[26] = transfer.phase;
-    image[27] = transfer.clocks;
-    image[28] = transfer.byte;
-    image[29] = transfer.first;
-    image
-}
-
-// The image that a state writes: the registers, the core, bytes 22 to 29, zeros, and the mark.
-pub fn image_of(state: State) -> [u8; LENGTH]
-    ensures { λ r. ⌜ r ≡ imageOf state ⌝ }
-{
-    let companion = state.companion;
-    let registers = companion.registers;
-    let core = companion.core;
-    let mut image = [0; LENGTH];
-    image[61] = 0x31;
-    image[62] = 0x30;
-    image[63] = 0x01;
-    image = with_registers(image, registers);
-    image = with_calendar(image, 15, core);
-    with_bus(image, state)
-}
-
-// Writes a state's image over a buffer of 64 bytes.
-pub fn write_image(state: State, image: &mut [u8])
-    requires { ⌜ length (now image) ≡ imageSize ⌝ }
-    ensures { λ _. ⌜ now (image .exit) ≡ imageOf state ⌝ }
-{
-    let written = image_of(state);
-    copy(&written, image);
 }
 
 // Writes a companion over an image's first 23 bytes.
@@ -97,28 +52,10 @@ pub fn write_companion(companion: Companion, image: &mut [u8])
     requires { ⌜ length (now image) ≡ imageSize ⌝ }
     ensures { λ _. ⌜ now (image .exit) ≡ sets (now (image .entry)) 0 (companionBytes companion) ⌝ }
 {
-    image[0] = companion.registers.control;
-    image[1] = companion.registers.trim;
-    image[2] = companion.registers.time.seconds;
-    image[3] = companion.registers.time.minutes;
-    image[4] = companion.registers.time.hours;
-    image[5] = companion.registers.time.day;
-    image[6] = companion.registers.time.date;
-    image[7] = companion.registers.time.month;
-    image[8] = companion.registers.time.year;
-    image[9] = companion.registers.alarm.seconds;
-    image[10] = companion.registers.alarm.minutes;
-    image[11] = companion.registers.alarm.hours;
-    image[12] = companion.registers.alarm.date;
-    image[13] = companion.registers.alarm.month;
-    image[14] = companion.registers.setup;
-    image[15] = companion.core.seconds;
-    image[16] = companion.core.minutes;
-    image[17] = companion.core.hours;
-    image[18] = companion.core.day;
-    image[19] = companion.core.date;
-    image[20] = companion.core.month;
-    image[21] = companion.core.year;
+    let registers = companion.registers;
+    let core = companion.core;
+    write_registers(registers, image);
+    write_calendar(core, image, 15);
     image[22] = companion.address;
 }
 
@@ -148,4 +85,25 @@ pub fn write_over(state: State, image: &mut [u8])
     let companion = state.companion;
     write_companion(companion, image);
     write_bus(state, image);
+}
+
+// The image that a state writes: its first 30 bytes over zeros and the mark.
+pub fn image_of(state: State) -> [u8; LENGTH]
+    ensures { λ r. ⌜ r ≡ imageOf state ⌝ }
+{
+    let mut image = [0; LENGTH];
+    image[61] = 0x31;
+    image[62] = 0x30;
+    image[63] = 0x01;
+    write_over(state, &mut image);
+    image
+}
+
+// Writes a state's image over a buffer of 64 bytes.
+pub fn write_image(state: State, image: &mut [u8])
+    requires { ⌜ length (now image) ≡ imageSize ⌝ }
+    ensures { λ _. ⌜ now (image .exit) ≡ imageOf state ⌝ }
+{
+    let written = image_of(state);
+    copy(&written, image);
 }
