@@ -18,7 +18,7 @@ use calendar::Rolled;
 use weights::has;
 
 // Whether an alarm field lets a calendar field pass: it has Match, or it is equal.
-fn agrees(alarm: u8, field: u8) -> bool
+pub fn agrees(alarm: u8, field: u8) -> bool
     ensures { λ r. ⌜ r ≡ agrees alarm field ⌝ }
 {
     has(alarm, MATCH) | (alarm % 128 == field)

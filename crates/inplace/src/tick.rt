@@ -4,7 +4,7 @@ ghost use mathlib.Core.Path.{_≡_};
 ghost use mathlib.Core.Bool.{true};
 ghost use lib.ListN.{length};
 ghost use Rattle.calendar.specs.Next.{isValid, nextOf};
-ghost use Rattle.companion.specs.Tick.{agrees, matches, countedOf};
+ghost use Rattle.companion.specs.Tick.{matches, countedOf};
 ghost use Rattle.companion.specs.Part.{tickOf, rolledOf};
 ghost use Rattle.device.specs.Bus.{withCompanion};
 ghost use Rattle.device.specs.declared.State.{State};
@@ -14,21 +14,15 @@ ghost use Rattle.inplace.specs.Lying.{Becomes};
 use crate::registers::show_core;
 use calendar::Calendar;
 use calendar::Rolled;
-use companion::map::MATCH;
 use companion::map::OSCEN;
 use companion::map::R;
 use companion::map::W;
+use companion::tick::agrees;
 use companion::tick::told;
 use image::read::calendar_at;
+use image::write::write_calendar;
 use std::num::wrapping_add_u8;
 use weights::has;
-
-// Whether an alarm field lets a calendar field pass: it has Match, or it is equal.
-fn agrees(alarm: u8, field: u8) -> bool
-    ensures { λ r. ⌜ r ≡ agrees alarm field ⌝ }
-{
-    has(alarm, MATCH) | (alarm % 128 == field)
-}
 
 // Whether the core stands at the alarm. Most often the seconds say that it does not.
 fn rings(image: &[u8]) -> bool
@@ -75,13 +69,7 @@ fn put_core(image: &mut [u8], calendar: Calendar)
     ensures { λ _. ⌜ Becomes (now (image .entry)) (λ s. withCompanion s (withCore (s .companion) calendar))
         (now (image .exit)) ⌝ }
 {
-    image[15] = calendar.seconds;
-    image[16] = calendar.minutes;
-    image[17] = calendar.hours;
-    image[18] = calendar.day;
-    image[19] = calendar.date;
-    image[20] = calendar.month;
-    image[21] = calendar.year;
+    write_calendar(calendar, image, 15);
 }
 
 // A tick that counts with which a minute begins.

@@ -1,52 +1,21 @@
 -- SPDX-License-Identifier: Apache-2.0
--- Seven stores.
+-- The seven bytes of the core, as a calendar's.
 -- Assumes nothing.
 use mathlib.Core.Path.{refl}
-use Rattle.image.specs.Image.{imageOf}
-use borrow.Author.Needs.{needs}
 use native.Mathlib.Omega.{arith}
-use lib.ListN.{length-set}
+use Rattle.image.specs.Image.{imageOf}
 use Rattle.inplace.proofs.tick.put_core.Statement.{statement}
 use Rattle.inplace.proofs.tick.put_core.Tie as tie
 
-slice-write-image : tie.Need-slice-write-image
-slice-write-image c = search needs
-
-slice-write-image-2 : tie.Need-slice-write-image-2
-slice-write-image-2 c = let l = c .pre in simp length-set (omega arith)
-
-slice-write-image-3 : tie.Need-slice-write-image-3
-slice-write-image-3 c = let l = c .pre in simp length-set (omega arith)
-
-slice-write-image-4 : tie.Need-slice-write-image-4
-slice-write-image-4 c = let l = c .pre in simp length-set (omega arith)
-
-slice-write-image-5 : tie.Need-slice-write-image-5
-slice-write-image-5 c = let l = c .pre in simp length-set (omega arith)
-
-slice-write-image-6 : tie.Need-slice-write-image-6
-slice-write-image-6 c = let l = c .pre in simp length-set (omega arith)
-
-slice-write-image-7 : tie.Need-slice-write-image-7
-slice-write-image-7 c = let l = c .pre in simp length-set (omega arith)
+write-calendar-requires : tie.Need-write-calendar-requires
+write-calendar-requires c κs = (c .before .before .pre, omega arith)
 
 same-length : tie.Need-same-length
-same-length c = simp length-set
+same-length c = c .before .image .given
 
 returns : tie.Need-returns
 unfolding imageOf
-returns c s e = rw e refl
+returns c s e = rw (c .before .before .write-calendar .ensures, e) refl
 
 pub put-core-spec : {M : Type 1} → statement M
-put-core-spec =
-    tie.close
-    (tie.spec
-    slice-write-image
-    slice-write-image-2
-    slice-write-image-3
-    slice-write-image-4
-    slice-write-image-5
-    slice-write-image-6
-    slice-write-image-7
-    same-length
-    returns)
+put-core-spec = tie.close (tie.spec write-calendar-requires same-length returns)
