@@ -3,54 +3,35 @@
 -- each place of the byte's nine clocks the stores that the code makes write the state that the machine's Clock leaves.
 -- Assumes nothing.
 use Prim.Native.Nat.{ℕ, _+_, _≤_, _<_}
-use mathlib.Core.Path.{_≡_, refl, sym}
+use mathlib.Core.Path.{_≡_, sym}
 use mathlib.Core.Bool.{Bool, true, false, _&&_}
-use mathlib.Core.List.{List, [], _∷_}
+use mathlib.Core.List.{List}
 use native.Mathlib.Omega.{arith}
-use lib.Dec.{eqb, leb}
+use lib.Dec.{leb}
 use lib.ListN.{getD, set}
-use borrow.Author.Tests.{eqb-true, eqb-false, leb-true}
+use borrow.Author.Tests.{leb-true}
 use Rattle.wire.specs.Bits.{placeAt, sentBit}
 use Rattle.wire.specs.Clock.{sentAt, more}
 use Rattle.wire.specs.Limits.{phaseWithin}
 use Rattle.wire.specs.Machine.{clocked}
 use Rattle.wire.specs.declared.Side.{Side}
 use Rattle.wire.specs.declared.Side.the-variants.{Memory, Companion}
-use Rattle.wire.specs.declared.Phase.{Phase}
-use Rattle.wire.specs.declared.Phase.the-variants.{Idle, Slave, AddressHigh, AddressLow, Pointer, Write, Read}
+use Rattle.wire.specs.declared.Phase.the-variants.{Idle, Read}
 use Rattle.wire.proofs.Clock.{sent-within}
-use Rattle.wire.proofs.Tests.{by-test, and-split}
+use Rattle.wire.proofs.Tests.{and-split}
 use Rattle.device.specs.Bus.{clockedWith}
 use Rattle.device.specs.declared.State.{State}
 use Rattle.device.proofs.Entry.{limits-of}
-use Rattle.frame.specs.Layout.{transferOf, phaseOf}
+use Rattle.frame.specs.Layout.{phaseOf, sideOf}
+use Rattle.frame.proofs.Numbers.{number-below, read-phase}
 use Rattle.image.specs.Image.{imageOf, candidate}
 use Rattle.image.proofs.Accepts.{image-well, image-written}
-use Rattle.clocking.specs.Outgoing.{sideOf, fetchedFrom, finishedBy, closedBy}
+use Rattle.clocking.specs.Outgoing.{fetchedFrom, finishedBy, closedBy}
 use Rattle.clocking.specs.Clocking.{Accepted, Left, clockOn}
-
--- no phase has a number above 8
-number-below : (p : Phase) → transferOf p .phase ≤ 8
-number-below Idle = omega arith
-number-below (Slave k b) = omega arith
-number-below (AddressHigh k b) = omega arith
-number-below (AddressLow h k b) = omega arith
-number-below (Pointer k b) = omega arith
-number-below (Write Memory k b) = omega arith
-number-below (Write Companion k b) = omega arith
-number-below (Read Memory k b) = omega arith
-number-below (Read Companion k b) = omega arith
 
 image-below : (s : State) → getD (imageOf s) 26 0 ≤ 8
 unfolding imageOf
 image-below s = number-below (s .phase)
-
--- the numbers of a byte that goes out
-read-phase : (n k b f : ℕ) → 6 < n → n ≤ 8 → phaseOf n k b f ≡ Read (sideOf n) k b
-unfolding phaseOf
-read-phase n k b f g l = by-test (eqb n 7)
-    (λ t. rw (eqb-true n 7 t))
-    (λ t. let z = eqb-false n 7 t in let e : n ≡ 8 = omega arith in rw e)
 
 -- the places of a byte
 module _ (s : State) (m i : List ℕ) (k b : ℕ) (e : i ≡ imageOf s) where

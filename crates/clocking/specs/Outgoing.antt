@@ -1,14 +1,12 @@
 -- SPDX-License-Identifier: Apache-2.0
 -- A byte that goes out, by the number of its phase: what is fetched, what the end of it does to a state, and what the
 -- master's ninth bit leaves of the image. Auxiliary.
---   sideOf                    the device that a read phase's number names
 --   fetchedFrom, finishedBy   the byte that is sent; the state once all of it was
 --   closedBy                  the image after the ninth clock
 -- Assumes nothing.
 use Prim.Native.Nat.{ℕ}
 use mathlib.Core.Bool.{Bool, cond}
 use mathlib.Core.List.{List, [], _∷_}
-use lib.Dec.{eqb}
 use lib.Seq.{sets}
 use Rattle.wire.specs.Memory.{lent, next, byteAt}
 use Rattle.wire.specs.declared.Side.{Side}
@@ -17,9 +15,6 @@ use Rattle.companion.specs.Part.{loadOf, loadedOf}
 use Rattle.device.specs.Bus.{withCompanion}
 use Rattle.device.specs.Chip.{memorySize}
 use Rattle.device.specs.declared.State.{State}
-
-abbrev pub sideOf : ℕ → Side
-sideOf n = cond (eqb n 7) Memory Companion
 
 -- "A read uses the current address."
 abbrev pub fetchedFrom : Side → State → List ℕ → ℕ

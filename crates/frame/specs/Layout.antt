@@ -2,10 +2,12 @@
 -- The supplies and the phase as the numbers of an image, and back (docs/IMAGE.md, bytes 25 to 29).
 --   powerNumber, powerOf   the supplies as byte 25, and back
 --   transferOf, phaseOf    the phase as bytes 26 to 29, and back
+--   sideOf                 the device that the number of a read phase names
 -- Assumes nothing.
 use Prim.Native.Nat.{ℕ}
 use mathlib.Core.Bool.{cond}
 use lib.Dec.{eqb}
+use Rattle.wire.specs.declared.Side.{Side}
 use Rattle.wire.specs.declared.Side.the-variants.{Memory, Companion}
 use Rattle.wire.specs.declared.Phase.{Phase}
 use Rattle.wire.specs.declared.Phase.the-variants.{Idle, Slave, AddressHigh, AddressLow, Pointer, Write, Read}
@@ -50,3 +52,7 @@ phaseOf n k b f =
     (cond (eqb n 6) (Write Companion k b)
     (cond (eqb n 7) (Read Memory k b)
     (cond (eqb n 8) (Read Companion k b) Idle)))))))
+
+-- Auxiliary: the device of a byte that goes out, by the phase's number, 7 or 8.
+abbrev pub sideOf : ℕ → Side
+sideOf n = cond (eqb n 7) Memory Companion

@@ -21,37 +21,31 @@ use Rattle.companion.specs.declared.Companion as C
 use Rattle.device.specs.Limits.{isLegal}
 use Rattle.device.specs.declared.State.{State}
 use Rattle.device.proofs.Entry.{limits-of}
-use Rattle.frame.specs.Layout.{transferOf, phaseOf}
+use Rattle.frame.specs.Layout.{transferOf, phaseOf, sideOf}
+use Rattle.frame.proofs.Numbers.{number-below, read-phase}
 use Rattle.image.specs.Accepting.{isImage}
 use Rattle.image.specs.Image.{imageOf, companionAt, candidate}
 use Rattle.image.proofs.Accepts.{image-well, image-written}
-use Rattle.line.specs.Line.{pullsOf, pullsAt, pullsWith, toldBy, takenPulls, isTaken, sideOf, fetchedOf}
+use Rattle.line.specs.Line.{pullsOf, pullsAt, pullsWith, toldBy, takenPulls, isTaken, fetchedOf}
 use Rattle.line.specs.Line.{lowBit, openedLow, followedLow, sentPulls}
 use Rattle.line.proofs.Lines.{line-at, idle-at, slave-pulls, high-pulls, low-pulls, pointer-pulls, put-pulls}
 use Rattle.line.proofs.Lines.{store-pulls, read-pulls}
 
--- the numbers that phases have, and that no clock is done outside a transfer
-numbered : (p : Phase) → (transferOf p .phase ≤ 8) × (transferOf p .phase ≡ 0 → transferOf p .clocks ≡ 0)
-numbered Idle = (omega arith, λ e. refl)
-numbered (Slave k b) = (omega arith, λ e. absurd (omega arith))
-numbered (AddressHigh k b) = (omega arith, λ e. absurd (omega arith))
-numbered (AddressLow h k b) = (omega arith, λ e. absurd (omega arith))
-numbered (Pointer k b) = (omega arith, λ e. absurd (omega arith))
-numbered (Write Memory k b) = (omega arith, λ e. absurd (omega arith))
-numbered (Write Companion k b) = (omega arith, λ e. absurd (omega arith))
-numbered (Read Memory k b) = (omega arith, λ e. absurd (omega arith))
-numbered (Read Companion k b) = (omega arith, λ e. absurd (omega arith))
+-- no clock is done outside a transfer
+rests : (p : Phase) → transferOf p .phase ≡ 0 → transferOf p .clocks ≡ 0
+rests Idle e = refl
+rests (Slave k b) e = absurd (omega arith)
+rests (AddressHigh k b) e = absurd (omega arith)
+rests (AddressLow h k b) e = absurd (omega arith)
+rests (Pointer k b) e = absurd (omega arith)
+rests (Write Memory k b) e = absurd (omega arith)
+rests (Write Companion k b) e = absurd (omega arith)
+rests (Read Memory k b) e = absurd (omega arith)
+rests (Read Companion k b) e = absurd (omega arith)
 
 image-numbered : (s : State) → (getD (imageOf s) 26 0 ≤ 8) × (getD (imageOf s) 26 0 ≡ 0 → getD (imageOf s) 27 0 ≡ 0)
 unfolding imageOf
-image-numbered s = numbered (s .phase)
-
--- a byte that goes out
-read-phase : (n k b f : ℕ) → 6 < n → n ≤ 8 → phaseOf n k b f ≡ Read (sideOf n) k b
-unfolding phaseOf
-read-phase n k b f g l = by-test (eqb n 7)
-    (λ t. rw (eqb-true n 7 t))
-    (λ t. let z = eqb-false n 7 t in let e : n ≡ 8 = omega arith in rw e)
+image-numbered s = (number-below (s .phase), rests (s .phase))
 
 -- a byte that comes in
 module _ (m : Cells) (c : C.Companion) where

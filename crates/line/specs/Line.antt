@@ -7,7 +7,7 @@
 --   LineSettled                     the entry's contract
 --   pulledAt, pullsAt               the same by the machine's Clock in a phase; auxiliary to the contracts of the code
 --   takenPulls, sentPulls           the same by the clocks done of a byte that comes in, of one that goes out
---   isTaken, sideOf, followedLow    a byte's acknowledge, its device, and the line after it, by the phase's number
+--   isTaken, followedLow            a byte's acknowledge, and the line after it, by the phase's number
 -- Assumes nothing.
 use Prim.Native.Nat.{ℕ, _+_, _%_}
 use mathlib.Core.Path.{_≡_}
@@ -99,10 +99,6 @@ isTaken n b a c d =
     (cond (eqb n 4) (leb (pushed b d) 14)
     (cond (eqb n 5) (not (isProtected memorySize (guardOf c) a))
     (cond (eqb n 6) (not (loadsBadDate c (pushed b d))) true)))
-
--- Auxiliary: the device that the number of a read phase names.
-abbrev pub sideOf : ℕ → Side
-sideOf n = cond (eqb n 7) Memory Companion
 
 -- Auxiliary: the byte that a read of a device sends next.
 unfoldable pub fetchedOf : Side → Cells → C.Companion → ℕ

@@ -40,10 +40,10 @@ use Rattle.device.specs.Power.{isSupplied}
 use Rattle.device.specs.declared.State.{State}
 use Rattle.device.proofs.Cases.{happening-clock, tick-supplied}
 use Rattle.device.proofs.Entry.{limits-of}
-use Rattle.frame.specs.Layout.{transfer, transferOf}
+use Rattle.frame.specs.Layout.{transfer, transferOf, sideOf}
 use Rattle.image.specs.Image.{imageOf}
 use Rattle.inplace.specs.Desk.{isTicking}
-use Rattle.clocking.specs.Outgoing.{sideOf, fetchedFrom}
+use Rattle.clocking.specs.Outgoing.{fetchedFrom}
 use Rattle.lists.specs.Run.{answerTo}
 
 -- The same byte of the same transfer, with so many clocks done and these bits.

@@ -17,12 +17,12 @@ use Rattle.device.specs.Bus.{withPhase, withCompanion}
 use Rattle.device.specs.Chip.{memorySize}
 use Rattle.device.specs.Event.{still}
 use Rattle.device.specs.declared.State.{State}
-use Rattle.frame.specs.Layout.{transferOf}
+use Rattle.frame.specs.Layout.{transferOf, sideOf}
 use Rattle.image.specs.Image.{imageOf, candidate}
 use Rattle.image.specs.Accepting.{isImage}
 use Rattle.image.proofs.Accepts.{image-well, image-written}
 use Rattle.inplace.specs.Desk.{isTicking}
-use Rattle.clocking.specs.Outgoing.{sideOf, fetchedFrom}
+use Rattle.clocking.specs.Outgoing.{fetchedFrom}
 use Rattle.clocking.specs.Clocking.{Accepted, Left, clockOn}
 use Rattle.rig.specs.Led.{Led, Rowed, Reached, Clocked, Begun}
 use Rattle.rig.proofs.Ledger.{led-none, led-more, led-on, image-accepted, lies, rowed-one}
