@@ -3,5 +3,5 @@
 //
 // receive  a Clock in a byte that comes in
 // send     a Clock in a byte that goes out, and any Clock
-mod receive;
+pub mod receive;
 pub mod send;

@@ -19,7 +19,7 @@ use wire::bits::push;
 use wire::storing::is_protected;
 
 // A byte of a phase begins, with the first address byte that is kept for it.
-fn begin(image: &mut [u8], number: u8, first: u8)
+pub fn begin(image: &mut [u8], number: u8, first: u8)
     requires { ⌜ length (now image) ≡ imageSize ⌝ }
     ensures { λ _. ⌜ now (image .exit) ≡ sets (now (image .entry)) 26 (number ∷ 0 ∷ 0 ∷ first ∷ []) ⌝ }
 {
@@ -30,7 +30,7 @@ fn begin(image: &mut [u8], number: u8, first: u8)
 }
 
 // Another memory address.
-fn move_to(image: &mut [u8], address: u16)
+pub(crate) fn move_to(image: &mut [u8], address: u16)
     requires { ⌜ length (now image) ≡ imageSize ⌝ }
     ensures { λ _. ⌜ now (image .exit) ≡ sets (now (image .entry)) 23 (address / 256 ∷ address % 256 ∷ []) ⌝ }
 {

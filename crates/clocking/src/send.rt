@@ -2,10 +2,7 @@
 // A Clock in a byte that goes out, and any Clock, where the transfer lies.
 ghost use Prim.Native.Nat.{_+_, _*_, _<_, _≤_};
 ghost use mathlib.Core.Path.{_≡_};
-ghost use mathlib.Core.Bool.{cond};
-ghost use mathlib.Core.List.{[], _∷_};
 ghost use lib.ListN.{length, getD};
-ghost use lib.Seq.{sets};
 ghost use Rattle.companion.specs.Map.{LAST};
 ghost use Rattle.device.specs.Chip.{memorySize};
 ghost use Rattle.device.specs.declared.State.{State};
@@ -14,6 +11,7 @@ ghost use Rattle.image.specs.Image.{imageSize, imageOf};
 ghost use Rattle.clocking.specs.Outgoing.{fetchedFrom, onward, finishedBy, closedBy};
 ghost use Rattle.clocking.specs.Clocking.{Accepted, Left, clockOn};
 ghost use Rattle.inplace.specs.Lying.{Becomes};
+use crate::receive::move_to;
 use crate::receive::receive;
 use device::MEMORY_SIZE;
 use image::read::pair;
@@ -40,8 +38,7 @@ fn step_on(image: &mut [u8])
     ensures { λ _. ⌜ Becomes (now (image .entry)) onward (now (image .exit)) ⌝ }
 {
     let next = (pair(image[23], image[24]) + 1) % MEMORY_SIZE;
-    image[23] = (next / 256) as u8;
-    image[24] = (next % 256) as u8;
+    move_to(image, next);
 }
 
 // What sending a whole byte does: the address of its device steps on.

@@ -6,10 +6,7 @@ ghost use mathlib.Core.List.{List};
 ghost use Prim.Native.Nat.{ℕ, _+_, _*_, _/_, _≤_};
 ghost use lib.ListN.{length};
 ghost use Rattle.wire.specs.Machine.{start, stop};
-ghost use Rattle.wire.specs.declared.Phase.{Phase};
-ghost use Rattle.frame.specs.Layout.{transfer, transferOf};
 ghost use Rattle.device.specs.Answer.{pinShown};
-ghost use Rattle.device.specs.Bus.{withPhase};
 ghost use Rattle.device.specs.Event.{onWire, second, lost, gone, returned, eventOf, rolledBy, rolledIn};
 ghost use Rattle.device.specs.declared.State.{State};
 ghost use Rattle.image.specs.Image.{imageSize, imageOf, candidate};
@@ -20,6 +17,7 @@ ghost use Rattle.resident.specs.Answering.{Answered};
 ghost use Rattle.resident.specs.Quiet.{quietOf};
 use crate::Told;
 use calendar::Rolled;
+use clocking::receive::begin;
 use clocking::send::clock;
 use companion::pin::pin_by;
 use companion::power::por_set;
@@ -58,18 +56,6 @@ pub fn lined(shown: u8, line: bool) -> u8
     shown
 }
 
-// A phase by its number, before its first clock.
-fn begin(image: &mut [u8], number: u8)
-    requires { ⌜ length (now image) ≡ imageSize ⌝ }
-    ensures { λ _. ⌜ ((p : Phase) → transferOf p ≡ transfer number 0 0 0
-        → Becomes (now (image .entry)) (λ s. withPhase s p) (now (image .exit))) ⌝ }
-{
-    image[26] = number;
-    image[27] = 0;
-    image[28] = 0;
-    image[29] = 0;
-}
-
 // Start: begins a slave byte, whatever was under way. Heard only while main power is present.
 fn start(image: &mut [u8])
     requires { ⌜ length (now image) ≡ imageSize ⌝ }
@@ -78,7 +64,7 @@ fn start(image: &mut [u8])
     if image[SUPPLIES] != ON {
         return;
     }
-    begin(image, 1);
+    begin(image, 1, 0);
 }
 
 // Stop: ends the transfer.
@@ -89,7 +75,7 @@ fn stop(image: &mut [u8])
     if image[SUPPLIES] != ON {
         return;
     }
-    begin(image, 0);
+    begin(image, 0, 0);
 }
 
 // Main power lost, backup present: the transfer ends, both addresses become 0.
@@ -104,7 +90,7 @@ fn lose(image: &mut [u8])
     image[23] = 0;
     image[24] = 0;
     image[SUPPLIES] = BACKUP;
-    begin(image, 0);
+    begin(image, 0, 0);
 }
 
 // Main power lost, no backup: all starts anew, as in the fresh device, but without a supply.

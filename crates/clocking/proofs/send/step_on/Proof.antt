@@ -1,8 +1,6 @@
 -- SPDX-License-Identifier: Apache-2.0
 -- The address of the state that lies in the image, from its two bytes and back.
 -- Assumes nothing.
-use native.Mathlib.Omega.{arith}
-use lib.ListN.{length-set}
 use Rattle.image.specs.Image.{imageOf}
 use Rattle.frame.proofs.Back.{address-of-bytes}
 use borrow.Author.Needs.{needs}
@@ -21,24 +19,17 @@ pair-requires c κs = search needs
 add-next : tie.Need-add-next
 add-next c = search needs
 
-cast-image : tie.Need-cast-image
-cast-image c = search needs
-
-slice-write-image : tie.Need-slice-write-image
-slice-write-image c = search needs
-
-cast-image-2 : tie.Need-cast-image-2
-cast-image-2 c = search needs
-
-slice-write-image-2 : tie.Need-slice-write-image-2
-slice-write-image-2 c = let l = c .before .before .before .before .pre .0 in simp length-set (omega arith)
+move-to-requires : tie.Need-move-to-requires
+move-to-requires c κs = search needs
 
 same-length : tie.Need-same-length
-same-length c = simp length-set
+same-length c = search needs
 
 returns : tie.Need-returns
 unfolding imageOf
-returns c = λ s e. rw (c .pair .ensures, e, address-of-bytes (s .address))
+returns c s e =
+    let m = c .before .before in
+    rw (m .move-to .ensures, m .before .before .pair .ensures, e, address-of-bytes (s .address))
 
 pub step-on-spec : {M : Type 1} → statement M
 step-on-spec =
@@ -48,9 +39,6 @@ step-on-spec =
     slice-read-pair-2
     pair-requires
     add-next
-    cast-image
-    slice-write-image
-    cast-image-2
-    slice-write-image-2
+    move-to-requires
     same-length
     returns)

@@ -1,7 +1,7 @@
 -- SPDX-License-Identifier: Apache-2.0
 -- Heard or not: eight stores.
 -- Assumes nothing.
-use mathlib.Core.Path.{_≡_, refl}
+use mathlib.Core.Path.{sym}
 use native.Mathlib.Omega.{arith}
 use lib.ListN.{length-set}
 use borrow.Author.Needs.{needs}
@@ -10,6 +10,7 @@ use Rattle.bus.specs.declared.Power.the-variants.{Backup}
 use Rattle.companion.specs.Part.{backedOf}
 use Rattle.device.specs.declared.State.{State}
 use Rattle.image.specs.Image.{imageOf}
+use Rattle.image.proofs.Places.{phase-over}
 use Rattle.resident.proofs.Quiets.{loss-heard, loss-unheard}
 use Rattle.resident.proofs.event.lose.Statement.{statement}
 use Rattle.resident.proofs.event.lose.Tie as tie
@@ -47,8 +48,7 @@ returns-2 : tie.Need-returns-2
 unfolding imageOf
 returns-2 c s e =
     let b = c .before .before in
-    rw (loss-heard s (rw e at (b .before .before .if1 .left)))
-    (b .begin .ensures Idle refl (at-rest s) (rw e refl))
+    rw (loss-heard s (rw e at (b .before .before .if1 .left)), b .begin .ensures, e) (sym (phase-over (at-rest s) Idle))
 
 pub lose-spec : {M : Type 1} → statement M
 lose-spec =

@@ -1,11 +1,12 @@
 -- SPDX-License-Identifier: Apache-2.0
 -- Heard or not.
 -- Assumes nothing.
-use mathlib.Core.Path.{refl}
+use mathlib.Core.Path.{sym}
 use borrow.Author.Needs.{needs}
 use Rattle.wire.specs.Machine as Machine
 use Rattle.wire.specs.declared.Phase.the-variants.{Idle}
 use Rattle.image.specs.Image.{imageOf}
+use Rattle.image.proofs.Places.{phase-over}
 use Rattle.resident.proofs.Quiets.{stop-heard, line-unheard}
 use Rattle.resident.proofs.event.stop.Statement.{statement}
 use Rattle.resident.proofs.event.stop.Tie as tie
@@ -27,7 +28,7 @@ returns-2 : tie.Need-returns-2
 unfolding imageOf
 returns-2 c s e =
     let b = c .before .before in
-    rw (stop-heard s (rw e at (b .before .before .if1 .left))) (b .begin .ensures Idle refl s e)
+    rw (stop-heard s (rw e at (b .before .before .if1 .left)), b .begin .ensures, e) (sym (phase-over s Idle))
 
 pub stop-spec : {M : Type 1} → statement M
 stop-spec = tie.close (tie.spec slice-read-if1 returns begin-requires same-length returns-2)
