@@ -15,6 +15,7 @@ use companion::Alarm;
 use companion::map::R;
 use companion::map::W;
 use image::read::calendar_at;
+use image::write::write_calendar;
 use weights::has;
 
 // Bytes 9 to 13, as an alarm.
@@ -36,28 +37,9 @@ fn write_left(left: Left, image: &mut [u8])
     requires { ⌜ length (now image) ≡ imageSize ⌝ }
     ensures { λ _. ⌜ now (image .exit) ≡ sets (set (now (image .entry)) 0 (left .control)) 15 (calendarBytes (left .core)) ⌝ }
 {
+    let core = left.core;
     image[0] = left.control;
-    image[15] = left.core.seconds;
-    image[16] = left.core.minutes;
-    image[17] = left.core.hours;
-    image[18] = left.core.day;
-    image[19] = left.core.date;
-    image[20] = left.core.month;
-    image[21] = left.core.year;
-}
-
-// Writes a calendar over bytes 2 to 8, registers 02h to 08h.
-fn write_time(calendar: Calendar, image: &mut [u8])
-    requires { ⌜ length (now image) ≡ imageSize ⌝ }
-    ensures { λ _. ⌜ now (image .exit) ≡ sets (now (image .entry)) 2 (calendarBytes calendar) ⌝ }
-{
-    image[2] = calendar.seconds;
-    image[3] = calendar.minutes;
-    image[4] = calendar.hours;
-    image[5] = calendar.day;
-    image[6] = calendar.date;
-    image[7] = calendar.month;
-    image[8] = calendar.year;
+    write_calendar(core, image, 15);
 }
 
 // Lets 02h to 08h take the core, unless R or W is 1: then they stay.
@@ -68,7 +50,7 @@ fn let_time_follow(control: u8, core: Calendar, image: &mut [u8])
     if has(control, W) | has(control, R) {
         return;
     }
-    write_time(core, image);
+    write_calendar(core, image, 2);
 }
 
 // Ticks that count, on the image of a state: the core goes on by all of them, the flags of all rise, and 02h to 08h follow

@@ -20,8 +20,8 @@ returns c =
     let s = first .before .before in
     follow-kept (s .args .control) (s .args .core) _ (first .has .ensures) (second .has2 .ensures) (c .if1 .taken)
 
-write-time-requires : tie.Need-write-time-requires
-write-time-requires c κs = search needs
+write-calendar-requires : tie.Need-write-calendar-requires
+write-calendar-requires c κs = search needs
 
 same-length : tie.Need-same-length
 same-length c = search needs
@@ -33,7 +33,7 @@ returns-2 c =
     let second = test .before in
     let first = second .before in
     let s = first .before .before in
-    wrote .write-time .ensures
+    wrote .write-calendar .ensures
     ∙ follow-written (s .args .control) (s .args .core) _ (first .has .ensures) (second .has2 .ensures) (test .if1 .left)
 
 pub let-time-follow-spec : {M : Type 1} → statement M
@@ -43,6 +43,6 @@ let-time-follow-spec =
     has-requires
     has-requires-2
     returns
-    write-time-requires
+    write-calendar-requires
     same-length
     returns-2)

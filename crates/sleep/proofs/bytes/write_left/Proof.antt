@@ -1,8 +1,6 @@
 -- SPDX-License-Identifier: Apache-2.0
--- Eight stores, each inside the image.
+-- `sleep::bytes::write_left` meets its contract: a store, and a calendar's seven.
 -- Assumes nothing.
-use mathlib.Core.Path.{refl}
-use native.Mathlib.Omega.{arith}
 use lib.ListN.{length-set}
 use borrow.Author.Needs.{needs}
 use Rattle.sleep.proofs.bytes.write_left.Statement.{statement}
@@ -11,44 +9,14 @@ use Rattle.sleep.proofs.bytes.write_left.Tie as tie
 slice-write-image : tie.Need-slice-write-image
 slice-write-image c = search needs
 
-slice-write-image-2 : tie.Need-slice-write-image-2
-slice-write-image-2 c = let l = c .pre in simp length-set (omega arith)
-
-slice-write-image-3 : tie.Need-slice-write-image-3
-slice-write-image-3 c = let l = c .pre in simp length-set (omega arith)
-
-slice-write-image-4 : tie.Need-slice-write-image-4
-slice-write-image-4 c = let l = c .pre in simp length-set (omega arith)
-
-slice-write-image-5 : tie.Need-slice-write-image-5
-slice-write-image-5 c = let l = c .pre in simp length-set (omega arith)
-
-slice-write-image-6 : tie.Need-slice-write-image-6
-slice-write-image-6 c = let l = c .pre in simp length-set (omega arith)
-
-slice-write-image-7 : tie.Need-slice-write-image-7
-slice-write-image-7 c = let l = c .pre in simp length-set (omega arith)
-
-slice-write-image-8 : tie.Need-slice-write-image-8
-slice-write-image-8 c = let l = c .pre in simp length-set (omega arith)
+write-calendar-requires : tie.Need-write-calendar-requires
+write-calendar-requires c κs = search needs
 
 same-length : tie.Need-same-length
-same-length c = simp length-set
+same-length c = rw (c .before .image .given) (simp length-set)
 
 returns : tie.Need-returns
-returns c = refl
+returns c = search needs
 
 pub write-left-spec : {M : Type 1} → statement M
-write-left-spec =
-    tie.close
-    (tie.spec
-    slice-write-image
-    slice-write-image-2
-    slice-write-image-3
-    slice-write-image-4
-    slice-write-image-5
-    slice-write-image-6
-    slice-write-image-7
-    slice-write-image-8
-    same-length
-    returns)
+write-left-spec = tie.close (tie.spec slice-write-image write-calendar-requires same-length returns)
