@@ -1,5 +1,2 @@
 -- SPDX-License-Identifier: Apache-2.0
 pub mod Unique
-pub mod Ledger
-pub mod Inside
-pub mod Rowing

@@ -1,9 +1,5 @@
 // SPDX-License-Identifier: Apache-2.0
-// What a host program calls: a list of events on a state's image and the lent buffers, and the fresh image.
-//
-// rows  events that are done together
-// run   the list run, and the fresh image
-mod rows;
+// What a host program calls: a list of events on a state's image and the lent buffers, and the fresh image (`run`).
 pub mod run;
 
 // What the list run returns: the number of 01's table, and how many events were done.

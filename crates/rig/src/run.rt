@@ -11,7 +11,6 @@ ghost use Rattle.lists.specs.Run.{allKnown, RanThrough};
 ghost use Rattle.rig.specs.Run.{RunSettled};
 ghost use Rattle.rig.specs.Fresh.{FreshSettled};
 use crate::Ran;
-use crate::rows::row;
 use device::State;
 use device::numbers::ACCEPTED;
 use device::numbers::SHORT_ANSWERS;
@@ -24,6 +23,7 @@ use image::MEMORY;
 use image::accept::is_image;
 use image::write::image_of;
 use lists::all_known;
+use rows::row;
 
 // All events, from an accepted image. The answers go to the front of their buffer.
 pub fn run_events(image: &mut [u8], memory: &mut [u8], events: &[u8], answers: &mut [u8])

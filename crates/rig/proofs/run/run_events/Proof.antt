@@ -11,8 +11,8 @@ use borrow.Author.Needs.{needs}
 use Rattle.image.specs.Image.{candidate}
 use Rattle.image.specs.Accepting.{isImage}
 use Rattle.image.proofs.Accepts.{image-long}
-use Rattle.rig.specs.Led.{Led}
-use Rattle.rig.proofs.Ledger.{begun, led-on, led-through}
+use Rattle.rows.specs.Led.{Led}
+use Rattle.rows.proofs.Ledger.{begun, led-on, led-through}
 use Rattle.rig.proofs.run.run_events.Statement.{statement}
 use Rattle.rig.proofs.run.run_events.Tie as tie
 
