@@ -9,7 +9,7 @@ use mathlib.Core.List.{List, _∷_}
 use Rattle.wire.specs.declared.Phase.the-variants.{Idle}
 use Rattle.device.specs.Event.{onWire, happening, eventOn, eventOf}
 use Rattle.wire.specs.Machine.{start, lined}
-use Rattle.bus.specs.Limits.{powerWithin}
+use Rattle.bounds.specs.Limits.{powerWithin}
 use Rattle.bus.specs.declared.Power.{Power}
 use Rattle.bus.specs.declared.Power.the-variants.{On, Backup, Off}
 use Rattle.device.specs.declared.State.{State}

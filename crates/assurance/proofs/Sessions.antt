@@ -11,7 +11,7 @@ use borrow.Author.Tests.{not-true}
 use Rattle.wire.specs.Machine.{start, stop, clock, lined}
 use Rattle.wire.specs.declared.Phase.the-variants.{Idle}
 use Rattle.wire.proofs.Tests.{by-test, and-split}
-use Rattle.bus.specs.Limits.{powerWithin}
+use Rattle.bounds.specs.Limits.{powerWithin}
 use Rattle.bus.specs.declared.Power.{Power}
 use Rattle.bus.specs.declared.Power.the-variants.{On, Backup, Off}
 use Rattle.device.specs.Event.{Happening, onWire, second, lost, gone, returned, happening, eventOn, eventOf}

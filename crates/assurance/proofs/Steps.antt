@@ -15,10 +15,10 @@ use Rattle.wire.specs.declared.Side.the-variants.{Memory, Companion}
 use Rattle.wire.specs.declared.Phase.{Phase}
 use Rattle.wire.specs.declared.Phase.the-variants.{Idle, Slave, AddressHigh, AddressLow, Pointer, Write, Read}
 use Rattle.wire.proofs.Tests.{by-test}
-use Rattle.bus.specs.Limits.{isIdle, powerWithin}
+use Rattle.bounds.specs.Limits.{isIdle, powerWithin}
 use Rattle.bus.specs.declared.Power.{Power}
 use Rattle.bus.specs.declared.Power.the-variants.{On, Backup, Off}
-use Rattle.companion.specs.Map.{OSCEN}
+use Rattle.registers.specs.Map.{OSCEN}
 use Rattle.companion.specs.Change.{withAddress}
 use Rattle.companion.specs.Part.{tickOf, returnedOf}
 use Rattle.companion.specs.declared.Companion.{Companion as Desk}

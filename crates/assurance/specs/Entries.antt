@@ -10,7 +10,7 @@ use mathlib.Core.List.{List, [], _∷_}
 use lib.ListN.{length}
 use Rattle.device.specs.Chip.{memorySize}
 use Rattle.device.specs.Limits.{wellFormed}
-use Rattle.device.specs.Numbers.{accepted, notHeld}
+use Rattle.numbers.specs.Numbers.{accepted, notHeld}
 use Rattle.image.specs.Image.{imageOf}
 use Rattle.holding.specs.Bus.{mayAsk, masterNumber, holderNumber}
 use Rattle.handheld.specs.Outcome.{askOf, callOf}

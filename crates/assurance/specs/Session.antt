@@ -12,7 +12,7 @@
 use Prim.Native.Nat.{ℕ}
 use mathlib.Core.Bool.{Bool, cond, _&&_}
 use mathlib.Core.List.{List, [], _∷_, _++_}
-use Rattle.device.specs.Numbers.{accepted, unknownEvent, notHeld}
+use Rattle.numbers.specs.Numbers.{accepted, unknownEvent, notHeld}
 use Rattle.device.specs.Event.{happening}
 use Rattle.device.specs.declared.State.{State}
 use Rattle.lists.specs.Run.{Ended, following, runOf, allKnown}

@@ -14,6 +14,9 @@ use wire::slave::answers;
 use wire::slave::slave_clock;
 use wire::slave::slave_names;
 
+// The select bits of a part that is alone on its line: its slave bytes are those of 01.
+pub const LONE: u8 = 0;
+
 // Whom a slave byte names: 1010 0ssx the memory, 1101 0ssx the companion, where ss are the part's select bits.
 pub fn names_for(select: u8, byte: u8) -> Named
     ensures { λ r. ⌜ r ≡ slaveNamesFor select byte ⌝ }

@@ -6,6 +6,7 @@ use crate::Figures;
 use crate::Judgement;
 use crate::Verdict;
 use crate::replay::replay;
+use accept::decode;
 use contents::ANSWERS_KIND;
 use contents::EVENTS_KIND;
 use contents::IMAGE_KIND;
@@ -16,7 +17,6 @@ use contents::sections::section;
 use frame::bytes::copy;
 use image::Decoded;
 use image::MEMORY;
-use image::read::decode;
 
 // The bytes of the longest capture: 60 KiB.
 const LIMIT: usize = 61440;

@@ -10,11 +10,11 @@ ghost use Rattle.device.specs.declared.State.{State};
 ghost use Rattle.image.specs.Image.{imageSize, imageOf};
 ghost use Rattle.clocking.specs.Incoming.{wholeBy, Wholly, openedBy, followedBy, firstBy};
 ghost use Rattle.clocking.specs.Clocking.{Accepted, Left, clockOn};
-use companion::map::WP0;
 use device::MEMORY_SIZE;
-use image::read::pair;
-use inplace::registers::aim;
-use inplace::registers::store;
+use frame::bytes::pair;
+use inplace::aim;
+use inplace::store;
+use registers::map::WP0;
 use wire::bits::push;
 use wire::storing::is_protected;
 

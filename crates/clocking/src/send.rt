@@ -3,7 +3,7 @@
 ghost use Prim.Native.Nat.{_+_, _*_, _<_, _≤_};
 ghost use mathlib.Core.Path.{_≡_};
 ghost use lib.ListN.{length, getD};
-ghost use Rattle.companion.specs.Map.{LAST};
+ghost use Rattle.registers.specs.Map.{LAST};
 ghost use Rattle.device.specs.Chip.{memorySize};
 ghost use Rattle.device.specs.declared.State.{State};
 ghost use Rattle.frame.specs.Layout.{sideOf};
@@ -14,9 +14,9 @@ ghost use Rattle.inplace.specs.Lying.{Becomes};
 use crate::receive::move_to;
 use crate::receive::receive;
 use device::MEMORY_SIZE;
-use image::read::pair;
-use inplace::registers::load;
-use inplace::registers::loaded;
+use frame::bytes::pair;
+use inplace::load;
+use inplace::loaded;
 use wire::bits::sending_line;
 
 // The byte that a read sends: from the memory at its address, or a register.

@@ -9,7 +9,7 @@ use lib.Dec.{leb, eqb}
 use Rattle.weights.specs.Weight.{has}
 use Rattle.weights.proofs.Cases.{by-cond}
 use Rattle.companion.specs.declared.Companion.{Companion}
-use Rattle.companion.specs.Map.{LAST, W}
+use Rattle.registers.specs.Map.{LAST, W}
 use Rattle.companion.specs.Change.{withAddress}
 use Rattle.companion.specs.Write.{writtenOf}
 use Rattle.companion.specs.Part.{aimOf, refusedAddress}

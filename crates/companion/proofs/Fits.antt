@@ -15,7 +15,8 @@ use borrow.Author.Tests.{lt-ltb, ltb-true, eqb-true, eqb-false}
 use Rattle.weights.proofs.Cases.{Below, none, _then_, below}
 use Rattle.calendar.proofs.Width.{Within, within-facts, within-test}
 use Rattle.companion.specs.declared.Registers.{Registers}
-use Rattle.companion.specs.Registers.{registerAt, putAt, topAndBelow, storedAt}
+use Rattle.registers.specs.Stored.{topAndBelow, storedAt}
+use Rattle.companion.specs.Registers.{registerAt, putAt}
 use Rattle.companion.specs.Limits.{fixedClear}
 use Rattle.companion.proofs.Bytes.{put-same, put-other}
 use Rattle.companion.proofs.LimitFacts.{RegistersWithin}

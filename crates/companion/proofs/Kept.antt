@@ -7,8 +7,9 @@ use mathlib.Core.Path.{_≡_, refl, ap, _∙_}
 use native.Mathlib.Omega.{arith}
 use borrow.Author.Tests.{ne-eqb, lt-leb}
 use Rattle.companion.specs.declared.Companion.{Companion}
-use Rattle.companion.specs.Map.{CONTROL, TRIM, YEARS, LAST}
-use Rattle.companion.specs.Registers.{registerAt, putAt, storedAt}
+use Rattle.registers.specs.Map.{CONTROL, TRIM, YEARS, LAST}
+use Rattle.registers.specs.Stored.{storedAt}
+use Rattle.companion.specs.Registers.{registerAt, putAt}
 use Rattle.companion.specs.Change.{withRegisters}
 use Rattle.companion.specs.Write.{writtenOf, byteStored}
 use Rattle.companion.specs.Limits.{registersWithin}

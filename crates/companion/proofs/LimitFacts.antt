@@ -9,7 +9,7 @@ use borrow.Author.Tests.{leb-true, le-leb}
 use Rattle.calendar.specs.Width as width
 use Rattle.companion.specs.declared.Registers.{Registers}
 use Rattle.companion.specs.declared.Companion.{Companion}
-use Rattle.companion.specs.Map.{LAST}
+use Rattle.registers.specs.Map.{LAST}
 use Rattle.companion.specs.Limits.{fixedClear, alarmWithin, registersWithin, isWithin}
 
 -- two tests, and three

@@ -10,7 +10,7 @@ use Rattle.calendar.specs.Next.{isValid}
 use Rattle.calendar.specs.declared.Rolled.the-variants.{Nothing}
 use Rattle.calendar.proofs.Highest.{changed-self, next-rolled, nothing-if-invalid, nothing-only-if-invalid}
 use Rattle.companion.specs.declared.Companion.{Companion}
-use Rattle.companion.specs.Map.{OSCEN}
+use Rattle.registers.specs.Map.{OSCEN}
 use Rattle.companion.specs.Part.{tickOf, rolledOf}
 
 module _ (c : Companion) where

@@ -1,23 +1,16 @@
 -- SPDX-License-Identifier: Apache-2.0
--- What the companion shows outside: the pin's function is one of four, and neither an address byte, nor the end of a read,
--- nor a tick changes the protection, which stands in 0Eh alone.
+-- What the companion shows outside: neither an address byte, nor the end of a read, nor a tick changes the protection, which
+-- stands in 0Eh alone.
 -- Assumes nothing.
-use Prim.Native.Nat.{ℕ, _≤_}
+use Prim.Native.Nat.{ℕ}
 use mathlib.Core.Path.{_≡_, refl}
-use lib.Dec.{leb, eqb, lit≤}
+use lib.Dec.{leb, eqb}
 use Rattle.weights.specs.Weight.{has}
 use Rattle.weights.proofs.Cases.{by-cond}
 use Rattle.companion.specs.declared.Companion.{Companion}
 use Rattle.companion.specs.declared.Taken.{Taken}
-use Rattle.companion.specs.Map.{LAST, AEN, CAL, ALSW, OSCEN}
-use Rattle.companion.specs.Pin.{functionOf}
+use Rattle.registers.specs.Map.{LAST, OSCEN}
 use Rattle.companion.specs.Part.{aimOf, loadedOf, tickOf, guardOf}
-
-pub function-le : (control setup : ℕ) → functionOf control setup ≤ 3
-function-le control setup =
-    let Q : ℕ → Type 0 = λ n. n ≤ 3 in
-    by-cond Q (has control CAL) (λ h. lit≤ tt)
-    (λ h. by-cond Q (has setup ALSW) (λ h. by-cond Q (has control AEN) (λ h. lit≤ tt) (λ h. lit≤ tt)) (λ h. lit≤ tt))
 
 pub aim-guard : (c : Companion) (b : ℕ) → guardOf (aimOf c b .companion) ≡ guardOf c
 unfolding aimOf

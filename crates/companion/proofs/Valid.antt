@@ -18,8 +18,8 @@ use Rattle.calendar.proofs.Tests.{true-test, test-true}
 use Rattle.calendar.proofs.Next.{next-valid}
 use Rattle.companion.specs.declared.Companion.{Companion}
 use Rattle.companion.specs.declared.Taken.{Taken}
-use Rattle.companion.specs.Map.{OSCEN, W}
-use Rattle.companion.specs.Control.{wFalls}
+use Rattle.registers.specs.Map.{OSCEN, W}
+use Rattle.registers.specs.Control.{wFalls}
 use Rattle.companion.specs.Write.{writtenOf}
 use Rattle.companion.specs.Part.{aimOf, loadsBadDate, storeOf, loadedOf, tickOf, lostOf, returnedOf}
 

@@ -20,15 +20,17 @@ use Rattle.calendar.proofs.Width.{next-within}
 use Rattle.companion.specs.declared.Registers.{Registers}
 use Rattle.companion.specs.declared.Companion.{Companion}
 use Rattle.companion.specs.declared.Taken.{Taken}
-use Rattle.companion.specs.Map.{LAST, OSCEN, CAL, W, R}
-use Rattle.companion.specs.Control.{flagsAfter, coreAfter, frozen, followed}
+use Rattle.registers.specs.Map.{LAST, OSCEN, CAL, W, R}
+use Rattle.registers.specs.Control.{flagsAfter, coreAfter, frozen, followed}
 use Rattle.companion.specs.Change.{withTime, withRegisters, withAddress}
-use Rattle.companion.specs.Write.{coreWritten, controlWritten, trimAfter, trimWritten, byteStored, writtenOf}
+use Rattle.registers.specs.Stored.{trimAfter}
+use Rattle.companion.specs.Write.{coreWritten, controlWritten, trimWritten, byteStored, writtenOf}
 use Rattle.companion.specs.Tick.{countedOf}
 use Rattle.companion.specs.Limits.{fixedClear, alarmWithin, registersWithin}
 use Rattle.companion.specs.Registers.{putAt}
-use Rattle.companion.specs.Power.{porSet}
-use Rattle.companion.specs.Part.{nextAddress, steppedOf, controlRead, aimOf, loadsBadDate, storeOf, loadedOf}
+use Rattle.registers.specs.Control.{porSet}
+use Rattle.registers.specs.Map.{nextAddress}
+use Rattle.companion.specs.Part.{steppedOf, controlRead, aimOf, loadsBadDate, storeOf, loadedOf}
 use Rattle.companion.specs.Part.{tickOf, backedOf, lostOf, returnedOf, isWithin}
 use Rattle.companion.proofs.LimitFacts.{RegistersWithin, Within, within-facts, within-test}
 use Rattle.companion.proofs.Fits.{top-fits, put-within}

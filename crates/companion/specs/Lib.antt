@@ -1,11 +1,9 @@
 -- SPDX-License-Identifier: Apache-2.0
--- The companion's definitions: what its contracts cite, and what a reader must believe. From the register map up to the
--- methods that a device calls (Part).
+-- The companion's definitions: what its contracts cite, and what a reader must believe. Up to the methods that a device
+-- calls (Part).
 -- Assumes nothing.
-pub mod Map
 pub mod Registers
 pub mod Change
-pub mod Control
 pub mod Write
 pub mod Tick
 pub mod Pin

@@ -12,7 +12,7 @@ use Rattle.calendar.specs.Width as width
 use Rattle.companion.specs.declared.Alarm.{Alarm}
 use Rattle.companion.specs.declared.Registers.{Registers}
 use Rattle.companion.specs.declared.Companion.{Companion}
-use Rattle.companion.specs.Map.{LAST}
+use Rattle.registers.specs.Map.{LAST}
 
 -- Auxiliary: below its bit 7 a byte has bits under the span alone.
 abbrev pub fixedClear : ℕ → ℕ → Bool

@@ -1,32 +1,28 @@
 -- SPDX-License-Identifier: Apache-2.0
 -- The companion as a device uses it: what a byte of a transfer does to it (01, Transfers), and, passed on from the
 -- other files, what a tick and the loss of power do, what the pin shows, what memory is protected, and the limits.
---   nextAddress, steppedOf   the address after one; the companion there
+--   steppedOf                the companion at the next address
 --   refusedAddress, aimOf    an address byte that is refused; an address byte
 --   loadsBadDate, refusedDate   a data byte that would load the core with no date; what it leaves
 --   storeOf                  a data byte at its eighth clock
 --   loadOf                   the byte that a read sends
 --   controlRead, loadedOf    what the end of a read of 00h leaves; of any read
 -- Assumes nothing.
-use Prim.Native.Nat.{ℕ, _+_, _%_}
+use Prim.Native.Nat.{ℕ}
 use mathlib.Core.Bool.{Bool, true, false, cond, not, _&&_}
 use lib.Dec.{leb, eqb}
 use Rattle.calendar.specs.Next.{isValid}
 use Rattle.companion.specs.declared.Companion.{Companion}
 use Rattle.companion.specs.declared.Taken.{Taken}
-use Rattle.companion.specs.Map.{CONTROL, COUNT, LAST}
+use Rattle.registers.specs.Map.{CONTROL, LAST, nextAddress}
 use Rattle.companion.specs.Registers.{registerAt, putAt}
-use Rattle.companion.specs.Control.{flagsAfter, wFalls}
+use Rattle.registers.specs.Control.{flagsAfter, wFalls}
 use Rattle.companion.specs.Change.{withRegisters, withAddress}
 use Rattle.companion.specs.Write.{writtenOf}
 unfoldable pub use Rattle.companion.specs.Tick.{tickOf, rolledOf}
 unfoldable pub use Rattle.companion.specs.Pin.{pinOf, guardOf}
 unfoldable pub use Rattle.companion.specs.Power.{backedOf, lostOf, returnedOf}
 unfoldable pub use Rattle.companion.specs.Limits.{isWithin}
-
--- 01, Transfers (ruling): the address steps on, "the companion from 0Eh to 00h".
-abbrev pub nextAddress : ℕ → ℕ
-nextAddress a = (a + 1) % COUNT
 
 -- 01, Transfers: "and then the address steps on".
 abbrev pub steppedOf : Companion → Companion

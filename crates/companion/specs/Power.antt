@@ -2,14 +2,15 @@
 -- The companion when power goes and comes (01, Ticks, alarm, power).
 --   lostDate, lostRegisters   what both supplies' loss leaves of the calendar and of the registers
 --   backedOf, lostOf          main power lost with backup; both supplies gone, which is the fresh companion too
---   porSet, returnedOf        00h, and the companion, when main power returns after backup
+--   returnedOf                the companion when main power returns after backup
 -- Assumes nothing.
-use Prim.Native.Nat.{ℕ, _+_, _*_, _/_, _%_}
+use Prim.Native.Nat.{ℕ, _+_}
 use Rattle.calendar.specs.declared.Calendar.{Calendar}
 use Rattle.companion.specs.declared.Registers.{Registers}
 use Rattle.companion.specs.declared.Companion.{Companion}
-use Rattle.companion.specs.Map.{CONTROL, LB, POR, OSCEN}
+use Rattle.registers.specs.Map.{CONTROL, LB, POR, OSCEN}
 use Rattle.companion.specs.Registers.{putAt}
+use Rattle.registers.specs.Control.{porSet}
 use Rattle.companion.specs.Change.{withRegisters, withAddress}
 
 -- 01, Ticks, alarm, power (ruling): all 0 but "day, date and month, which are 1".
@@ -36,10 +37,6 @@ backedOf c = withAddress c 0
 -- state too.
 unfoldable pub lostOf : Companion
 lostOf = record { registers = lostRegisters; core = lostDate; address = 0 }
-
--- 01, Ticks, alarm, power: event 7 "after backup .. sets POR".
-abbrev pub porSet : ℕ → ℕ
-porSet control = control / 32 * 32 + POR + control % 16
 
 -- 01, Ticks, alarm, power: main power returned after backup.
 unfoldable pub returnedOf : Companion → Companion

@@ -1,15 +1,12 @@
 -- SPDX-License-Identifier: Apache-2.0
 -- A one-second tick where power or backup is present (01, Ticks, alarm, power).
---   agrees, matches    an alarm field and a calendar field; the alarm and a calendar
+--   matches            the alarm and a calendar
 --   rung               whether a tick that counts brings the core to the alarm
---   toldOf             00h after a tick that counts: what the tick tells
 --   countedOf          a tick that counts
 --   tickOf             a tick
 --   rolledOf           the field that a tick says
 -- Assumes nothing.
-use Prim.Native.Nat.{ℕ, _%_}
-use mathlib.Core.Bool.{Bool, cond, _&&_, _||_}
-use lib.Dec.{eqb}
+use mathlib.Core.Bool.{Bool, cond, _&&_}
 use Rattle.weights.specs.Weight.{has}
 use Rattle.calendar.specs.Next.{isValid, nextOf}
 use Rattle.calendar.specs.declared.Calendar.{Calendar}
@@ -18,13 +15,10 @@ use Rattle.calendar.specs.declared.Rolled.the-variants.{Nothing}
 use Rattle.companion.specs.declared.Alarm.{Alarm}
 use Rattle.companion.specs.declared.Companion.{Companion}
 use Rattle.companion.specs.declared.Ticked.{Ticked}
-use Rattle.companion.specs.Map.{AF, CF, OSCEN, MATCH}
-use Rattle.companion.specs.Control.{flagged, followed}
+use Rattle.registers.specs.Map.{OSCEN}
+use Rattle.registers.specs.Control.{followed, toldOf}
+use Rattle.registers.specs.Alarm.{agrees}
 use Rattle.companion.specs.Change.{withTime}
-
--- 01, Ticks, alarm, power: an alarm field "with Match 0 equals the core's field"; one with Match 1 is not asked.
-abbrev pub agrees : ℕ → ℕ → Bool
-agrees alarm field = has alarm MATCH || eqb (alarm % 128) field
 
 -- 01, Ticks, alarm, power: "if each alarm field with Match 0 equals the core's field; with none selected, every
 -- second".
@@ -36,10 +30,6 @@ matches a c =
 -- 01, Ticks, alarm, power: "After an advance AF is set if .."; an invalid core "raises nothing (ruling)".
 abbrev pub rung : Companion → Bool
 rung c = isValid (c .core) && matches (c .registers .alarm) (nextOf (c .core) .calendar)
-
--- 01, Ticks, alarm, power: "AF is set if .."; "AEN does not gate AF (ruling)"; "Year 99 to 00 sets CF".
-abbrev pub toldOf : ℕ → Bool → Bool → ℕ
-toldOf control rung century = flagged control (has control AF || rung) (has control CF || century)
 
 -- 01, Ticks, alarm, power: the core goes to its next second, the flags rise, "Then, on every tick that counts, core
 -- valid or not, 02h to 08h take the core if R and W are 0".

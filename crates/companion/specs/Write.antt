@@ -1,21 +1,22 @@
 -- SPDX-License-Identifier: Apache-2.0
 -- What a data byte does to the register at the companion's address (01, Registers).
 --   coreWritten, controlWritten   the core after a write of 00h; the write
---   trimAfter, trimWritten        01h after a write; the write
+--   trimWritten                   a write of 01h
 --   byteStored                    a write to a register that always stores
 --   timeWritten                   a write of one of 02h to 08h
 --   writtenOf                     a write at the address
 -- Assumes nothing.
-use Prim.Native.Nat.{ℕ, _+_, _*_, _/_, _%_}
+use Prim.Native.Nat.{ℕ}
 use mathlib.Core.Bool.{cond}
 use lib.Dec.{leb, eqb}
 use Rattle.weights.specs.Weight.{has}
 use Rattle.calendar.specs.declared.Calendar.{Calendar}
 use Rattle.companion.specs.declared.Companion.{Companion}
-use Rattle.companion.specs.Map.{CONTROL, TRIM, YEARS, CAL, W}
-use Rattle.companion.specs.Registers.{putAt, storedAt}
+use Rattle.registers.specs.Map.{CONTROL, TRIM, YEARS, W}
+use Rattle.companion.specs.Registers.{putAt}
+use Rattle.registers.specs.Stored.{storedAt, trimAfter}
 use Rattle.companion.specs.Change.{withTime, withRegisters}
-use Rattle.companion.specs.Control.{controlAfter, coreAfter, timeAfter}
+use Rattle.registers.specs.Control.{controlAfter, coreAfter, timeAfter}
 
 -- 01, Registers: the core after a write of 00h.
 abbrev pub coreWritten : Companion → ℕ → Calendar
@@ -31,10 +32,6 @@ controlWritten c b =
       core = coreWritten c b;
       address = c .address;
     }
-
--- 01, Registers: "OSCEN, 0, CALS, five CAL bits. The last six are stored only if CAL was 1 before the write".
-abbrev pub trimAfter : ℕ → ℕ → ℕ → ℕ
-trimAfter control old b = b / 128 * 128 + cond (has control CAL) (b % 64) (old % 64)
 
 -- 01, Registers: a write of 01h.
 abbrev pub trimWritten : Companion → ℕ → Companion

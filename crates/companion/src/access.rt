@@ -1,10 +1,9 @@
 // SPDX-License-Identifier: Apache-2.0
-// The fifteen registers by address: what stands there, and what a store leaves; and which bits of a byte each of 02h to
-// 0Eh keeps. A write of 00h or 01h has rules of its own.
+// The fifteen registers by address: what stands there, and what a store leaves.
 ghost use mathlib.Core.Path.{_≡_};
-ghost use Prim.Native.Nat.{_<_, _≤_};
-ghost use Rattle.companion.specs.Map.{TRIM, LAST};
-ghost use Rattle.companion.specs.Registers.{registerAt, putAt, topAndBelow, storedAt};
+ghost use Prim.Native.Nat.{_≤_};
+ghost use Rattle.registers.specs.Map.{LAST};
+ghost use Rattle.companion.specs.Registers.{registerAt, putAt};
 use crate::Registers;
 
 impl Registers {
@@ -55,35 +54,5 @@ impl Registers {
             _ => self.setup = byte,
         }
         self
-    }
-}
-
-// Bit 7 of a byte and its bits below a span, a power of two: those between are 0.
-fn top_and_below(span: u8, byte: u8) -> u8
-    requires { ⌜ (0 < span) × (span ≤ 128) ⌝ }
-    ensures { λ r. ⌜ r ≡ topAndBelow span byte ⌝ }
-{
-    byte / 128 * 128 + byte % span
-}
-
-// What the register at an address from 02h on keeps of a byte.
-pub fn stored(address: u8, byte: u8) -> u8
-    requires { ⌜ (TRIM < address) × (address ≤ LAST) ⌝ }
-    ensures { λ r. ⌜ r ≡ storedAt address byte ⌝ }
-{
-    match address {
-        2 => byte % 128,
-        3 => byte % 128,
-        4 => byte % 64,
-        5 => byte % 8,
-        6 => byte % 64,
-        7 => byte % 32,
-        8 => byte,
-        9 => top_and_below(128, byte),
-        10 => top_and_below(128, byte),
-        11 => top_and_below(64, byte),
-        12 => top_and_below(64, byte),
-        13 => top_and_below(32, byte),
-        _ => byte,
     }
 }

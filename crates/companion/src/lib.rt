@@ -3,10 +3,8 @@
 // knows nothing of buses or memory: a device hands it whole bytes, ticks and power events, and asks it for bytes, the
 // pin and the protection. Every method takes the companion by value and returns the next one.
 //
-//   map.rt       each bit by its weight
-//   access.rt    the registers by address, and the bits that each stores
+//   access.rt    the registers by address
 //   change.rt    one part replaced, the rest kept
-//   control.rt   00h: what a write leaves, what a read clears
 //   write.rt     a data byte by its address
 //   tick.rt      a one-second tick: the core, the alarm, the flags
 //   pin.rt       the ACS pin, and the protection of memory
@@ -16,16 +14,14 @@
 use calendar::Calendar;
 use calendar::Rolled;
 
-pub mod access;
+mod access;
 mod change;
-pub mod control;
 mod limits;
-pub mod map;
-pub mod part;
-pub mod pin;
-pub mod power;
-pub mod tick;
-pub mod write;
+mod part;
+mod pin;
+mod power;
+mod tick;
+mod write;
 
 // Registers 09h to 0Dh. Bit 7 of each is Match: 1 leaves the field out of the comparison.
 pub struct Alarm {

@@ -5,7 +5,7 @@ ghost use Rattle.companion.specs.Limits.{fixedClear, alarmWithin, regist
 use crate::Alarm;
 use crate::Companion;
 use crate::Registers;
-use crate::map::LAST;
+use registers::map::LAST;
 
 // Whether a byte has, below its bit 7, bits under the span alone.
 fn fixed_clear(span: u8, byte: u8) -> bool

@@ -3,25 +3,17 @@
 ghost use mathlib.Core.Path.{_≡_};
 ghost use Prim.Native.Nat.{_≤_};
 ghost use Rattle.calendar.specs.Next.{isValid};
-ghost use Rattle.companion.specs.Map.{LAST};
-ghost use Rattle.companion.specs.Part.{nextAddress, steppedOf, refusedAddress, controlRead};
+ghost use Rattle.registers.specs.Map.{LAST};
+ghost use Rattle.companion.specs.Part.{steppedOf, refusedAddress, controlRead};
 ghost use Rattle.companion.specs.Part.{aimOf, loadsBadDate, refusedDate, storeOf, loadOf, loadedOf};
 use crate::Companion;
 use crate::Taken;
-use crate::control::flags_after;
-use crate::control::w_falls;
-use crate::map::CONTROL;
-use crate::map::COUNT;
-use crate::map::LAST;
 use calendar::Calendar;
-
-// The address after one: from 0Eh back to 00h.
-pub fn next_address(address: u8) -> u8
-    requires { ⌜ address ≤ LAST ⌝ }
-    ensures { λ r. ⌜ r ≡ nextAddress address ⌝ }
-{
-    (address + 1) % COUNT
-}
+use registers::control::flags_after;
+use registers::control::w_falls;
+use registers::map::CONTROL;
+use registers::map::LAST;
+use registers::map::next_address;
 
 // Whether a calendar is a date and a time that exist. It is handed on byte by byte: copied whole, its bytes and the one
 // before them would be packed into a word and unpacked again at every event of the list run (docs/SPEED.md).

@@ -1,15 +1,16 @@
 // SPDX-License-Identifier: Apache-2.0
 // The companion when power goes and comes.
 ghost use mathlib.Core.Path.{_≡_};
-ghost use Rattle.companion.specs.Power.{lostDate, lostRegisters, backedOf, lostOf, porSet, returnedOf};
+ghost use Rattle.companion.specs.Power.{lostDate, lostRegisters, backedOf, lostOf, returnedOf};
 use crate::Alarm;
 use crate::Companion;
 use crate::Registers;
-use crate::map::CONTROL;
-use crate::map::LB;
-use crate::map::OSCEN;
-use crate::map::POR;
 use calendar::Calendar;
+use registers::control::por_set;
+use registers::map::CONTROL;
+use registers::map::LB;
+use registers::map::OSCEN;
+use registers::map::POR;
 
 // The date that the loss of both supplies leaves: all 0 but day, date and month, which are 1.
 fn lost_date() -> Calendar
@@ -44,13 +45,6 @@ fn lost_registers() -> Registers
         alarm: alarm,
         setup: 0,
     }
-}
-
-// 00h with POR at 1.
-pub fn por_set(control: u8) -> u8
-    ensures { λ r. ⌜ r ≡ porSet control ⌝ }
-{
-    control / 32 * 32 + POR + control % 16
 }
 
 impl Companion {

@@ -2,27 +2,18 @@
 // A one-second tick: the core goes on, the flags rise, 02h to 08h follow. Whether power or backup is present is the
 // caller's to test.
 ghost use mathlib.Core.Path.{_≡_};
-ghost use Rattle.companion.specs.Tick.{agrees, matches, toldOf, countedOf, tickOf, rolledOf, tickedOf};
+ghost use Rattle.companion.specs.Tick.{matches, countedOf, tickOf, rolledOf, tickedOf};
 ghost use Rattle.calendar.specs.Next.{nextOf};
 use crate::Alarm;
 use crate::Companion;
 use crate::Ticked;
-use crate::control::flagged;
-use crate::control::followed;
-use crate::map::AF;
-use crate::map::CF;
-use crate::map::MATCH;
-use crate::map::OSCEN;
 use calendar::Calendar;
 use calendar::Rolled;
+use registers::alarm::agrees;
+use registers::control::followed;
+use registers::control::told;
+use registers::map::OSCEN;
 use weights::has;
-
-// Whether an alarm field lets a calendar field pass: it has Match, or it is equal.
-pub fn agrees(alarm: u8, field: u8) -> bool
-    ensures { λ r. ⌜ r ≡ agrees alarm field ⌝ }
-{
-    has(alarm, MATCH) | (alarm % 128 == field)
-}
 
 impl Alarm {
     // Whether each selected field equals the calendar's; with none selected, always.
@@ -35,15 +26,6 @@ impl Alarm {
             & agrees(self.date, time.date)
             & agrees(self.month, time.month)
     }
-}
-
-// 00h after a tick that counts: AF rises where the alarm rang, CF where the year left the century.
-pub fn told(control: u8, rung: bool, century: bool) -> u8
-    ensures { λ r. ⌜ r ≡ toldOf control rung century ⌝ }
-{
-    let af = has(control, AF) | rung;
-    let cf = has(control, CF) | century;
-    flagged(control, af, cf)
 }
 
 impl Companion {

@@ -2,30 +2,20 @@
 // What a data byte does to the register at the companion's address.
 ghost use mathlib.Core.Path.{_≡_};
 ghost use Prim.Native.Nat.{_<_, _≤_};
-ghost use Rattle.companion.specs.Map.{TRIM, LAST};
-ghost use Rattle.companion.specs.Write.{controlWritten, trimAfter, trimWritten};
+ghost use Rattle.registers.specs.Map.{TRIM, LAST};
+ghost use Rattle.companion.specs.Write.{controlWritten, trimWritten};
 ghost use Rattle.companion.specs.Write.{byteStored, timeWritten, writtenOf};
 use crate::Companion;
-use crate::access::stored;
-use crate::control::control_after;
-use crate::control::core_after;
-use crate::control::time_after;
-use crate::map::CAL;
-use crate::map::CONTROL;
-use crate::map::TRIM;
-use crate::map::W;
-use crate::map::YEARS;
+use registers::control::control_after;
+use registers::control::core_after;
+use registers::control::time_after;
+use registers::map::CONTROL;
+use registers::map::TRIM;
+use registers::map::W;
+use registers::map::YEARS;
+use registers::stored::stored;
+use registers::stored::trim_after;
 use weights::has;
-
-// 01h after a write: OSCEN is taken, bit 6 is 0, the last six bits are taken only with CAL at 1.
-pub fn trim_after(control: u8, old: u8, byte: u8) -> u8
-    ensures { λ r. ⌜ r ≡ trimAfter control old byte ⌝ }
-{
-    if has(control, CAL) {
-        return byte / 128 * 128 + byte % 64;
-    }
-    byte / 128 * 128 + old % 64
-}
 
 impl Companion {
     // A write of 00h: the core first, then 02h to 08h by the core as it now is.

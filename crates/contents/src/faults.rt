@@ -12,9 +12,9 @@ use crate::IMAGE_KIND;
 use crate::MEMORY_KIND;
 use crate::entries::ENTRY;
 use crate::entries::entry_at;
+use accept::decode;
 use image::Decoded;
 use image::MEMORY;
-use image::read::decode;
 use lists::all_known;
 
 // The bytes of the table.

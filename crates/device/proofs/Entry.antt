@@ -13,24 +13,24 @@ use Rattle.wire.specs.Slave.{slaveNames}
 use Rattle.wire.specs.Limits.{phaseWithin}
 use Rattle.wire.specs.declared.Phase.{Phase}
 use Rattle.wire.proofs.Tests.{and-split}
-use Rattle.bus.specs.Limits.{isBetween, powerWithin}
+use Rattle.bounds.specs.Limits.{isBetween, powerWithin}
+use Rattle.bus.specs.Select.{lone}
 use Rattle.bus.specs.Select.{slaveNamesFor}
-use Rattle.bus.proofs.Keeps.{from-zero}
+use Rattle.bounds.proofs.Keeps.{from-zero}
 use Rattle.bus.proofs.Lone.{lone-within}
-use Rattle.companion.specs.Map.{LAST}
+use Rattle.registers.specs.Map.{LAST}
 use Rattle.companion.specs.Part.{isWithin}
 use Rattle.companion.proofs.LimitFacts.{within-address}
-use Rattle.device.specs.Numbers.{wrongMemory, wrongState, unknownEvent}
+use Rattle.numbers.specs.Numbers.{wrongMemory, wrongState, unknownEvent}
 use Rattle.device.specs.Chip.{memorySize}
 use Rattle.device.specs.Event.{eventOf, rolledIn}
 use Rattle.device.specs.Limits.{isLegal, wellFormed}
-use Rattle.device.specs.OnBus.{noSelect}
 use Rattle.device.specs.Step.{Ready, refused, answered, stepOf, StepSettled}
 use Rattle.device.specs.declared.State.{State}
 use Rattle.device.specs.declared.Stepped.{Stepped}
 
 -- a phase has the limits of one of a part with select bits 00 whose companion's addresses begin at 0
-pub lone-phase : (p : Phase) → phaseWithin (slaveNamesFor noSelect) (isBetween 0 LAST) p ≡ phaseWithin slaveNames isLegal p
+pub lone-phase : (p : Phase) → phaseWithin (slaveNamesFor lone) (isBetween 0 LAST) p ≡ phaseWithin slaveNames isLegal p
 lone-phase p = lone-within (isBetween 0 LAST) p ∙ ap (λ legal. phaseWithin slaveNames legal p) (from-zero LAST)
 
 -- the limits of a state, one by one

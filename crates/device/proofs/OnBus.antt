@@ -15,6 +15,7 @@ use Rattle.wire.specs.declared.Named.{Named}
 use Rattle.wire.specs.declared.Side.the-variants.{Memory, Companion}
 use Rattle.wire.specs.declared.Phase.{Phase}
 use Rattle.wire.specs.declared.Phase.the-variants.{Idle, Slave, AddressHigh, AddressLow, Pointer, Write, Read}
+use Rattle.bus.specs.Select.{lone}
 use Rattle.bus.specs.Desk.{partOf}
 use Rattle.bus.specs.Event as bus
 use Rattle.bus.specs.declared.Beat.the-variants.{Second}
@@ -23,7 +24,7 @@ use Rattle.bus.specs.declared.Power.the-variants.{On, Backup, Off}
 use Rattle.bus.proofs.Lone.{lone-names}
 use Rattle.device.specs.Chip.{memorySize, fm3130, doneOf}
 use Rattle.device.specs.Event.{Happening, onWire, second, lost, gone, returned, happening, eventOn, eventOf}
-use Rattle.device.specs.OnBus.{companion30, busOf, noSelect, doneWith}
+use Rattle.device.specs.OnBus.{companion30, busOf, doneWith}
 use Rattle.device.specs.declared.State.{State}
 
 -- what happens, as a bus has it
@@ -49,7 +50,7 @@ happening-on-bus (suc (suc (suc (suc (suc (suc (suc (suc e)))))))) h = absurd (o
 module _ (s : State) (m : List ℕ) where
   clock-on-bus : (p : Phase) (d : Bool)
       → doneOf (clocked fm3130 p (lent m (s .address)) (s .companion) d)
-      ≡ doneWith (bus.doneOf memorySize noSelect companion30 (clocked (partOf memorySize noSelect companion30) p
+      ≡ doneWith (bus.doneOf memorySize lone companion30 (clocked (partOf memorySize lone companion30) p
       (lent m (s .address)) (s .companion) d))
   unfolding clocked
   clock-on-bus Idle d = refl
@@ -70,7 +71,7 @@ module _ (s : State) (m : List ℕ) where
   clock-on-bus (Read Companion k b) d = refl
 
   line-on-bus : (x : Line)
-      → eventOn On (onWire x) s m ≡ doneWith (bus.eventOn memorySize noSelect companion30 On (bus.onWire x) (busOf s)
+      → eventOn On (onWire x) s m ≡ doneWith (bus.eventOn memorySize lone companion30 On (bus.onWire x) (busOf s)
       (s .companion) m)
   unfolding eventOn bus.eventOn lined
   line-on-bus start = refl
@@ -78,7 +79,7 @@ module _ (s : State) (m : List ℕ) where
   line-on-bus (clock d) = clock-on-bus (s .phase) d
 
   pub event-on-bus : (p : Power) (x : Happening) → s .power ≡ p
-      → eventOn p x s m ≡ doneWith (bus.eventOn memorySize noSelect companion30 p (onBus x) (busOf s) (s .companion) m)
+      → eventOn p x s m ≡ doneWith (bus.eventOn memorySize lone companion30 p (onBus x) (busOf s) (s .companion) m)
   unfolding eventOn bus.eventOn
   event-on-bus On (onWire x) q = line-on-bus x
   event-on-bus On second q = rw q refl
@@ -97,8 +98,8 @@ module _ (s : State) (m : List ℕ) where
   event-on-bus Off returned q = refl
 
 pub on-bus : (s : State) (m : List ℕ) (e : ℕ) → e ≤ 7
-    → eventOf s m e ≡ doneWith (bus.eventOf memorySize noSelect companion30 (busOf s) (s .companion) m e)
+    → eventOf s m e ≡ doneWith (bus.eventOf memorySize lone companion30 (busOf s) (s .companion) m e)
 on-bus s m e h =
     event-on-bus s m (s .power) (happening e) refl
-    ∙ ap (λ (x : bus.Happening). doneWith (bus.eventOn memorySize noSelect companion30 (s .power) x (busOf s)
+    ∙ ap (λ (x : bus.Happening). doneWith (bus.eventOn memorySize lone companion30 (s .power) x (busOf s)
     (s .companion) m)) (sym (happening-on-bus e h))

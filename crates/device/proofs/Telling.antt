@@ -13,20 +13,21 @@ use Rattle.wire.specs.declared.Phase.{Phase}
 use Rattle.wire.specs.declared.Phase.the-variants.{Idle, Slave, AddressHigh, AddressLow, Pointer, Write, Read}
 use Rattle.calendar.specs.declared.Rolled.the-variants.{Nothing}
 use Rattle.companion.specs.Part.{guardOf}
+use Rattle.bus.specs.Select.{lone}
 use Rattle.bus.specs.Event as bus
-use Rattle.bus.specs.Serve.{atLast, atEnds, clockDeed, lineDeed, deedOf}
+use Rattle.deeds.specs.Serve.{atLast, atEnds, clockDeed, lineDeed, deedOf}
 use Rattle.bus.specs.Outcome.{left, wentOf}
 use Rattle.bus.specs.Outcome as bus-outcome
 use Rattle.bus.specs.declared.Bus.{Bus}
-use Rattle.bus.specs.declared.Deed.{Deed}
+use Rattle.deeds.specs.declared.Deed.{Deed}
 use Rattle.bus.specs.declared.Power.{Power}
 use Rattle.bus.specs.declared.Power.the-variants.{On, Backup, Off}
 use Rattle.bus.specs.declared.Went.{Went}
-use Rattle.bus.proofs.Split.{split}
+use Rattle.deeds.proofs.Split.{split}
 use Rattle.device.specs.Chip.{memorySize}
 use Rattle.device.specs.Event.{Happening, onWire, second, lost, gone, returned, happening, eventOf, rolledBy, rolledIn}
 use Rattle.device.specs.Answer.{answerByte}
-use Rattle.device.specs.OnBus.{companion30, busOf, stateWith, noSelect, saidBy, servedBy}
+use Rattle.device.specs.OnBus.{companion30, busOf, stateWith, saidBy, servedBy}
 use Rattle.device.specs.Step.{Ready, ToldWith}
 use Rattle.device.specs.declared.State.{State}
 use Rattle.device.specs.declared.Served.{Served}
@@ -95,7 +96,7 @@ bus-ready s m u h r = rw h (record { memory = r .memory; address = r .address })
 
 pub told : (s : State) (m m′ : List ℕ) (e g a : ℕ) (u : Bus) (q : Deed) (v : Served) (w : Went) (s′ : State) → e ≤ 7
     → u ≡ busOf s → g ≡ guardOf (s .companion) → q ≡ deedOf (u .power) (u .phase) (bus.happening e)
-    → v ≡ servedBy q (s .companion) → left w m′ ≡ wentOf memorySize noSelect g (v .reply) u m e
+    → v ≡ servedBy q (s .companion) → left w m′ ≡ wentOf memorySize lone g (v .reply) u m e
     → s′ ≡ stateWith (w .bus) (v .companion) → a ≡ answerByte s′ (w .line)
     → ToldWith (record { state = s′; answer = a; rolled = v .rolled }) m′ (eventOf s m e) (rolledIn s e)
 told s m m′ e g a u q v w s′ h hu hg hq hv hw hs ha =
@@ -103,14 +104,14 @@ told s m m′ e g a u q v w s′ h hu hg hq hv hw hs ha =
     let q₀ = deedOf (s .power) (s .phase) (bus.happening e) in
     let q′ : q ≡ q₀ = hq ∙ ap (λ (u : Bus). deedOf (u .power) (u .phase) (bus.happening e)) hu in
     let v′ : v ≡ servedBy q₀ c = hv ∙ ap (λ (q : Deed). servedBy q c) q′ in
-    let moved : wentOf memorySize noSelect g (v .reply) u m e
-    ≡ wentOf memorySize noSelect (guardOf c) (servedBy q₀ c .reply) (busOf s) m e =
-    λ i. wentOf memorySize noSelect (hg i) (v′ i .reply) (hu i) m e in
+    let moved : wentOf memorySize lone g (v .reply) u m e
+    ≡ wentOf memorySize lone (guardOf c) (servedBy q₀ c .reply) (busOf s) m e =
+    λ i. wentOf memorySize lone (hg i) (v′ i .reply) (hu i) m e in
     let w′ = hw ∙ moved in
     let s″ = hs ∙ (λ i. stateWith (w′ i .went .bus) (v′ i .companion)) in
     let a′ = ha ∙ (λ i. answerByte (s″ i) (w′ i .went .line)) in
     let r′ = ap (λ (v : Served). v .rolled) v′ ∙ said s e h in
-    rw (on-bus s m e h, split memorySize noSelect companion30 (busOf s) c m (s .power) (bus.happening e))
+    rw (on-bus s m e h, split memorySize lone companion30 (busOf s) c m (s .power) (bus.happening e))
     (record {
       result = λ i. record { state = s″ i; answer = a′ i; rolled = r′ i };
       memory = λ i. w′ i .memory;

@@ -11,13 +11,14 @@ use native.Mathlib.Omega.{arith}
 use lib.ListN.{length}
 use Rattle.wire.specs.Limits.{phaseWithin}
 use Rattle.wire.specs.declared.Phase.the-variants.{Idle}
+use Rattle.bus.specs.Select.{lone}
 use Rattle.bus.specs.Event as bus
-use Rattle.bus.specs.Limits.{powerWithin}
+use Rattle.bounds.specs.Limits.{powerWithin}
 use Rattle.bus.specs.declared.Power.{Power}
 use Rattle.bus.specs.declared.Power.the-variants.{On, Backup, Off}
-use Rattle.bus.proofs.Keeps.{from-zero, DeskKeeps, event-keeps}
-use Rattle.bus.proofs.Keeps as Keeps
-use Rattle.companion.specs.Map.{LAST}
+use Rattle.bounds.proofs.Keeps.{from-zero, DeskKeeps, event-keeps}
+use Rattle.bounds.proofs.Keeps as Keeps
+use Rattle.registers.specs.Map.{LAST}
 use Rattle.companion.specs.Part.{isWithin}
 use Rattle.companion.proofs.Address.{aim-acknowledged}
 use Rattle.companion.proofs.Within.{aim-within, store-within, loaded-within, tick-within, backed-within, lost-within, returned-within}
@@ -25,7 +26,7 @@ use Rattle.device.specs.Chip.{memorySize, Done}
 use Rattle.device.specs.Power.{fresh}
 use Rattle.device.specs.Event.{happening, eventOf}
 use Rattle.device.specs.Limits.{wellFormed}
-use Rattle.device.specs.OnBus.{companion30, busOf, stateWith, noSelect}
+use Rattle.device.specs.OnBus.{companion30, busOf, stateWith}
 use Rattle.device.specs.declared.State.{State}
 use Rattle.device.proofs.Entry.{lone-phase, limits-of, of-limits}
 use Rattle.device.proofs.OnBus.{onBus, event-on-bus}
@@ -55,10 +56,10 @@ pub event-ok : (s : State) (m : List ℕ) (e : ℕ) → wellFormed s ≡ true �
 unfolding keeps
 event-ok s m e w h =
     let l = limits-of s w in
-    let d : bus.Done memorySize noSelect companion30 =
-    bus.eventOn memorySize noSelect companion30 (s .power) (onBus (happening e)) (busOf s) (s .companion) m in
-    let k : Keeps.DoneOk memorySize noSelect 0 LAST (omega arith) companion30 keeps d =
-    event-keeps memorySize noSelect 0 LAST (omega arith) companion30 keeps (busOf s) (s .companion) m
+    let d : bus.Done memorySize lone companion30 =
+    bus.eventOn memorySize lone companion30 (s .power) (onBus (happening e)) (busOf s) (s .companion) m in
+    let k : Keeps.DoneOk memorySize lone 0 LAST (omega arith) companion30 keeps d =
+    event-keeps memorySize lone 0 LAST (omega arith) companion30 keeps (busOf s) (s .companion) m
     (record { address = l .address; phase = lone-phase (s .phase) ∙ l .phase; power = l .power }) (l .companion) h
     (s .power) (onBus (happening e)) in
     rw (event-on-bus s m (s .power) (happening e) refl)

@@ -6,8 +6,8 @@ use mathlib.Core.Bool.{Bool, _&&_}
 use lib.Dec.{ltb, leb}
 use Rattle.wire.specs.Slave.{slaveNames}
 use Rattle.wire.specs.Limits.{phaseWithin}
-use Rattle.bus.specs.Limits.{powerWithin}
-use Rattle.companion.specs.Map.{LAST}
+use Rattle.bounds.specs.Limits.{powerWithin}
+use Rattle.registers.specs.Map.{LAST}
 use Rattle.companion.specs.Part.{isWithin}
 use Rattle.device.specs.Chip.{memorySize}
 use Rattle.device.specs.declared.State.{State}

@@ -9,12 +9,13 @@
 use Prim.Native.Nat.{ℕ}
 use Rattle.calendar.specs.declared.Rolled.{Rolled}
 use Rattle.calendar.specs.declared.Rolled.the-variants as rolled
+use Rattle.bus.specs.Select.{lone}
 use Rattle.bus.specs.Desk.{Desks}
 use Rattle.bus.specs.Event as bus
-use Rattle.bus.specs.Serve as Serve
+use Rattle.deeds.specs.Serve as Serve
 use Rattle.bus.specs.declared.Bus.{Bus}
-use Rattle.bus.specs.declared.Deed.{Deed}
-use Rattle.bus.specs.declared.Deed.the-variants.{Nothing, Aim, Store, Load, Loaded, Beat, Backed, Lost, Returned}
+use Rattle.deeds.specs.declared.Deed.{Deed}
+use Rattle.deeds.specs.declared.Deed.the-variants.{Nothing, Aim, Store, Load, Loaded, Beat, Backed, Lost, Returned}
 use Rattle.companion.specs.Part.{loadOf, loadedOf, tickOf, rolledOf, guardOf, pinOf, backedOf, lostOf, returnedOf}
 use Rattle.companion.specs.declared.Companion.{Companion}
 use Rattle.device.specs.Desk.{aims, stores}
@@ -44,11 +45,7 @@ busOf s = record { power = s .power; phase = s .phase; address = s .address }
 abbrev pub stateWith : Bus → Companion → State
 stateWith u c = record { power = u .power; phase = u .phase; address = u .address; companion = c }
 
--- The slave bytes of 01 are those of select bits 00.
-abbrev pub noSelect : ℕ
-noSelect = 0
-
-abbrev pub doneWith : bus.Done memorySize noSelect companion30 → Done
+abbrev pub doneWith : bus.Done memorySize lone companion30 → Done
 doneWith d = record { state = stateWith (d .bus) (d .companion); memory = d .memory; line = d .line }
 
 -- A tick says a field; nothing else that is asked does.

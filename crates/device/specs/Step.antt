@@ -11,8 +11,8 @@ use mathlib.Core.Bool.{cond}
 use mathlib.Core.List.{List}
 use lib.Dec.{eqb, ltb}
 use lib.ListN.{length}
-use Rattle.companion.specs.Map.{LAST}
-use Rattle.device.specs.Numbers.{accepted, wrongMemory, wrongState, unknownEvent}
+use Rattle.registers.specs.Map.{LAST}
+use Rattle.numbers.specs.Numbers.{accepted, wrongMemory, wrongState, unknownEvent}
 use Rattle.device.specs.Chip.{memorySize, Done}
 use Rattle.calendar.specs.declared.Rolled.{Rolled}
 use Rattle.calendar.specs.declared.Rolled.the-variants.{Nothing}

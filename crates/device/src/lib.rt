@@ -2,7 +2,6 @@
 // The FM3130: one event on a state by value and the lent memory. Supplies, transfers and memory are those of every part
 // (crate `bus`), the companion is `companion`.
 //
-// numbers  the numbers of the table of refusals
 // serve    what an event asks of the companion, done
 // answer   the answer byte
 // limits   which states are well-formed
@@ -15,15 +14,11 @@ use wire::Phase;
 
 mod answer;
 mod limits;
-pub mod numbers;
 mod serve;
 mod step;
 
 // The bytes of memory.
 pub const MEMORY_SIZE: u16 = 8192;
-
-// The select bits of a part whose slave bytes are those of 01.
-const NO_SELECT: u8 = 0;
 
 // The device without its memory, which the caller lends. The memory address stands here, the companion's own inside it.
 pub struct State {

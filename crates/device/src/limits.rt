@@ -4,9 +4,10 @@ ghost use mathlib.Core.Path.{_≡_};
 ghost use Rattle.device.specs.Limits.{wellFormed};
 use crate::MEMORY_SIZE;
 use crate::State;
-use bus::limits::phase_within;
-use bus::limits::power_within;
-use companion::map::LAST;
+use bounds::phase_within;
+use bounds::power_within;
+use bus::select::LONE;
+use registers::map::LAST;
 
 impl State {
     pub fn is_well_formed(self) -> bool
@@ -17,7 +18,7 @@ impl State {
         let companion = self.companion;
         (self.address < MEMORY_SIZE)
             & companion.is_within()
-            & phase_within(0, 0, LAST, phase)
+            & phase_within(LONE, 0, LAST, phase)
             & power_within(power, phase)
     }
 }

@@ -2,17 +2,17 @@
 // What an event asks of the companion, done: all that the FM3130 adds to its companion and to `bus`.
 ghost use mathlib.Core.Path.{_≡_};
 ghost use Prim.Native.Nat.{_≤_};
-ghost use Rattle.companion.specs.Map.{LAST};
+ghost use Rattle.registers.specs.Map.{LAST};
 ghost use Rattle.companion.specs.Part.{tickOf, rolledOf};
-ghost use Rattle.bus.specs.Serve as Serve;
+ghost use Rattle.deeds.specs.Serve as Serve;
 ghost use Rattle.device.specs.Desk.{takenOf};
 ghost use Rattle.device.specs.OnBus.{companion30, saying, silent, servedBy};
 use crate::Served;
-use bus::Deed;
 use bus::Reply;
 use calendar::Rolled;
 use companion::Companion;
 use companion::Taken;
+use deeds::Deed;
 
 // A companion with nothing to say.
 fn quiet(companion: Companion) -> Served

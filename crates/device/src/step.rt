@@ -9,19 +9,20 @@ ghost use Rattle.device.specs.Step.{Ready, AnsweredWith, ToldWith};
 ghost use Rattle.device.specs.Step.{refusal, acceptance, StepSettled};
 use crate::Answered;
 use crate::MEMORY_SIZE;
-use crate::NO_SELECT;
 use crate::State;
 use crate::Stepped;
 use crate::Told;
-use crate::numbers::ACCEPTED;
-use crate::numbers::UNKNOWN_EVENT;
-use crate::numbers::WRONG_MEMORY;
-use crate::numbers::WRONG_STATE;
 use crate::serve::serve;
 use bus::Bus;
 use bus::Power;
+use bus::select::LONE;
 use calendar::Rolled;
 use companion::Companion;
+use deeds::deed_of;
+use numbers::ACCEPTED;
+use numbers::UNKNOWN_EVENT;
+use numbers::WRONG_MEMORY;
+use numbers::WRONG_STATE;
 
 // What the entry returns of a refused event: its state unchanged with answer byte 1, and no field of the calendar.
 fn refused(number: u8, state: State) -> Stepped
@@ -92,9 +93,9 @@ impl State {
         let bus = self.bus();
         let companion = self.companion;
         let guard = companion.guard();
-        let served = serve(companion, bus.asks(event));
+        let served = serve(companion, deed_of(bus, event));
         let reply = served.reply;
-        let went = bus.happen(memory, MEMORY_SIZE, NO_SELECT, guard, reply, event);
+        let went = bus.happen(memory, MEMORY_SIZE, LONE, guard, reply, event);
         let next = went.bus;
         let after = served.companion;
         let state = State::with(next, after);

@@ -10,7 +10,7 @@ use borrow.Author.Tests.{eq-eqb}
 use Rattle.wire.specs.declared.Phase.{Phase}
 use Rattle.wire.specs.declared.Phase.the-variants.{Idle, Slave, AddressHigh, AddressLow, Pointer, Write, Read}
 use Rattle.wire.proofs.Tests.{and-split}
-use Rattle.bus.specs.Limits.{isIdle}
+use Rattle.bounds.specs.Limits.{isIdle}
 use Rattle.wired.proofs.Wire.{not-true}
 use Rattle.set31.specs.Set.{Held, Together, first, second, third, fourth, numberOf, at, selectIn}
 use Rattle.set31.specs.Make.{isLent, isWithin, isBetween, ifHere, placesAre, differ, selectsDiffer, makeNumber}

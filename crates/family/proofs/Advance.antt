@@ -6,12 +6,12 @@ use mathlib.Core.Path.{_≡_, ap, _∙_}
 use mathlib.Core.List.{List}
 use Rattle.counters.specs.Part.{guardOf}
 use Rattle.bus.specs.Event.{happening}
-use Rattle.bus.specs.Serve.{deedOf}
-use Rattle.bus.specs.Serve as Serve
+use Rattle.deeds.specs.Serve.{deedOf}
+use Rattle.deeds.specs.Serve as Serve
 use Rattle.bus.specs.Outcome.{Left, left, wentOf}
-use Rattle.bus.specs.declared.Deed.{Deed}
+use Rattle.deeds.specs.declared.Deed.{Deed}
 use Rattle.bus.specs.declared.Went.{Went}
-use Rattle.bus.proofs.Split.{split}
+use Rattle.deeds.proofs.Split.{split}
 use Rattle.family.specs.Chip.{companion31, eventOf}
 use Rattle.family.specs.Step.{servedOf, answerByte, AnsweredWith}
 use Rattle.family.specs.declared.State.{State}

@@ -18,11 +18,12 @@ use Rattle.counters.specs.Map.{FIRST, LAST}
 use Rattle.counters.proofs.Within.{within-facts, aim-acknowledged, aim-within, store-within, loaded-within}
 use Rattle.counters.proofs.Within.{edge-within, backed-within, lost-within, returned-within, blank-within}
 use Rattle.bus.specs.Event.{happening}
-use Rattle.bus.specs.Limits.{powerWithin, busWithin}
+use Rattle.bounds.specs.Limits.{powerWithin, busWithin}
 use Rattle.bus.specs.declared.Beat.{Beat}
 use Rattle.bus.specs.declared.Beat.the-variants.{Second, Cnt1, Cnt2}
-use Rattle.bus.proofs.Keeps.{BusLimits, bus-limits-of, of-bus-limits, DeskKeeps, DoneOk, event-keeps}
-use Rattle.family.specs.Numbers.{wrongMemory, wrongState, unknownEvent, lastEvent}
+use Rattle.bounds.proofs.Keeps.{BusLimits, bus-limits-of, of-bus-limits, DeskKeeps, DoneOk, event-keeps}
+use Rattle.numbers.specs.Numbers.{wrongMemory, wrongState, unknownEvent}
+use Rattle.family.specs.Chip.{lastEvent}
 use Rattle.family.specs.Chip.{sizeOf, companion31, beaten, eventOf, fresh}
 use Rattle.family.specs.Limits.{wellFormed}
 use Rattle.family.specs.Step.{Ready, stateOf, refused, answered, stepOf, StepSettled}

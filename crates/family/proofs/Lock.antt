@@ -12,7 +12,7 @@ use Rattle.counters.proofs.Lock.{backed-keeps, lost-keeps, returned-keeps}
 use Rattle.bus.specs.Event.{happening}
 use Rattle.bus.specs.declared.Beat.{Beat}
 use Rattle.bus.specs.declared.Beat.the-variants.{Second, Cnt1, Cnt2}
-use Rattle.bus.proofs.Served.{AllLeave, event-leaves}
+use Rattle.deeds.proofs.Served.{AllLeave, event-leaves}
 use Rattle.family.specs.Chip.{companion31, beaten, eventOf}
 use Rattle.family.specs.Step.{stateOf}
 use Rattle.family.specs.Run.{runOf}

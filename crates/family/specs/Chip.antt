@@ -1,6 +1,7 @@
 -- SPDX-License-Identifier: Apache-2.0
 -- The larger family as a part of the bus machine (02, number 5).
---   sizeOf, lone             "its 64Kb and 256Kb sizes"; the select bits of a device that is alone on its line
+--   sizeOf                   "its 64Kb and 256Kb sizes"
+--   lastEvent                the last of its event bytes
 --   takenOf, beaten          the companion's functions as the machine asks for them
 --   companion31              the companion
 --   Done, eventOf            one event on a state and the lent memory
@@ -29,9 +30,9 @@ abbrev pub sizeOf : Size → ℕ
 sizeOf Kb64 = 8192
 sizeOf Kb256 = 32768
 
--- Number 5 has one device: its slave bytes are those of 01, with select bits 00.
-abbrev pub lone : ℕ
-lone = 0
+-- "Two new event bytes, 8 and 9": the last of the ten.
+abbrev pub lastEvent : ℕ
+lastEvent = 9
 
 -- Auxiliary: what the companion makes of a byte, as the machine asks for it.
 abbrev pub takenOf : Taken → Clock.Taken Counters

@@ -6,7 +6,7 @@ use Prim.Native.Nat.{ℕ}
 use mathlib.Core.Bool.{Bool, _&&_}
 use Rattle.counters.specs.Map.{FIRST, LAST}
 use Rattle.counters.specs.Part.{isWithin}
-use Rattle.bus.specs.Limits.{busWithin}
+use Rattle.bounds.specs.Limits.{busWithin}
 use Rattle.family.specs.declared.State.{State}
 
 -- Those of the bus, with the companion's first and last address, and those of the companion.

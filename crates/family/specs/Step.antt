@@ -13,8 +13,9 @@ use mathlib.Core.List.{List}
 use lib.Dec.{eqb, leb}
 use lib.ListN.{length}
 use Rattle.counters.specs.Map.{FIRST, LAST}
-use Rattle.bus.specs.Serve as Serve
-use Rattle.family.specs.Numbers.{accepted, wrongMemory, wrongState, unknownEvent, lastEvent}
+use Rattle.deeds.specs.Serve as Serve
+use Rattle.numbers.specs.Numbers.{accepted, wrongMemory, wrongState, unknownEvent}
+use Rattle.family.specs.Chip.{lastEvent}
 use Rattle.family.specs.Chip.{sizeOf, companion31, Done, eventOf}
 use Rattle.family.specs.Limits.{wellFormed}
 use Rattle.family.specs.declared.Size.{Size}

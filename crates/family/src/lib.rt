@@ -2,14 +2,12 @@
 // The larger family, in its 64Kb and 256Kb sizes: supplies, transfers and memory are those of every part (crate `bus`),
 // the companion is `counters`.
 //
-// numbers   the refusal numbers
 // serve     what an event asks of the companion, done
 // step      one event byte, and the entry with its refusals
 use bus::Bus;
 use bus::Reply;
 use counters::Counters;
 
-pub mod numbers;
 mod serve;
 pub mod step;
 
@@ -21,9 +19,6 @@ pub const KB256: u16 = 32768;
 
 // The last event byte: 9, an edge on CNT2.
 pub const LAST_EVENT: u8 = 9;
-
-// The select bits of a device that is alone on its line.
-pub const LONE: u8 = 0;
 
 // The two sizes.
 pub enum Size {

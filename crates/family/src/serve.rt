@@ -3,16 +3,16 @@
 ghost use mathlib.Core.Path.{_≡_};
 ghost use Prim.Native.Nat.{_≤_};
 ghost use Rattle.counters.specs.Map.{FIRST, LAST};
-ghost use Rattle.bus.specs.Serve as Serve;
+ghost use Rattle.deeds.specs.Serve as Serve;
 ghost use Rattle.family.specs.Chip.{companion31, beaten};
 ghost use Rattle.family.specs.Step.{servedOf};
 use crate::Served;
 use bus::Beat;
-use bus::Deed;
 use bus::Reply;
 use counters::Counters;
 use counters::Input;
 use counters::Taken;
+use deeds::Deed;
 
 // A companion with nothing to say.
 fn quiet(counters: Counters) -> Served

@@ -2,7 +2,7 @@
 // One event byte on a state and the lent memory, and the entry that refuses what 01's table refuses.
 ghost use mathlib.Core.Path.{_≡_};
 ghost use Prim.Native.Nat.{_≤_};
-ghost use Rattle.family.specs.Numbers.{lastEvent};
+ghost use Rattle.family.specs.Chip.{lastEvent};
 ghost use Rattle.family.specs.Chip.{sizeOf, eventOf, fresh};
 ghost use Rattle.family.specs.Limits.{wellFormed};
 ghost use Rattle.family.specs.Step.{Ready, AnsweredWith, answerByte, refusal, StepSettled};
@@ -13,16 +13,18 @@ use crate::LAST_EVENT;
 use crate::Size;
 use crate::State;
 use crate::Stepped;
-use crate::numbers::ACCEPTED;
-use crate::numbers::UNKNOWN_EVENT;
-use crate::numbers::WRONG_MEMORY;
-use crate::numbers::WRONG_STATE;
 use crate::serve::serve;
+use bounds::bus_within;
 use bus::Bus;
 use bus::Power;
 use counters::Counters;
 use counters::map::FIRST;
 use counters::map::LAST;
+use deeds::deed_of;
+use numbers::ACCEPTED;
+use numbers::UNKNOWN_EVENT;
+use numbers::WRONG_MEMORY;
+use numbers::WRONG_STATE;
 
 // The bytes of memory of a size.
 pub fn size_of(size: Size) -> u16
@@ -69,7 +71,7 @@ impl State {
     {
         let bus = self.bus;
         let counters = self.counters;
-        bus.is_within(size, select, FIRST, LAST) & counters.is_within()
+        bus_within(bus, size, select, FIRST, LAST) & counters.is_within()
     }
 
     // One event of the ten, with its answer byte: the companion does what it is asked, the bus does the rest.
@@ -81,7 +83,7 @@ impl State {
         let bus = self.bus;
         let counters = self.counters;
         let guard = counters.guard();
-        let served = serve(counters, bus.asks(event));
+        let served = serve(counters, deed_of(bus, event));
         let reply = served.reply;
         let went = bus.happen(memory, size, select, guard, reply, event);
         let next = went.bus;

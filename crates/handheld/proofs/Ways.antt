@@ -8,7 +8,7 @@ use mathlib.Core.Bool.{true, false}
 use mathlib.Core.List.{List, [], _∷_}
 use lib.ListN.{length}
 use borrow.Author.Tests.{eq-eqb, ne-eqb}
-use Rattle.device.specs.Numbers.{accepted, wrongMemory, wrongState, unknownEvent, shortAnswers, notHeld}
+use Rattle.numbers.specs.Numbers.{accepted, wrongMemory, wrongState, unknownEvent, shortAnswers, notHeld}
 use Rattle.device.specs.Chip.{memorySize}
 use Rattle.device.specs.declared.State.{State}
 use Rattle.image.specs.Image.{decodeOf}

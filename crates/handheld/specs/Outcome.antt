@@ -11,7 +11,7 @@ use mathlib.Core.Bool.{Bool, true, false, cond}
 use mathlib.Core.List.{List, [], _∷_}
 use lib.Dec.{eqb}
 use lib.ListN.{length}
-use Rattle.device.specs.Numbers.{accepted, wrongMemory, wrongState, unknownEvent, notHeld}
+use Rattle.numbers.specs.Numbers.{accepted, wrongMemory, wrongState, unknownEvent, notHeld}
 use Rattle.device.specs.Chip.{memorySize}
 use Rattle.image.specs.Image.{decodeOf}
 use Rattle.lists.specs.Run.{Outcome, refused, outcomeOf, allKnown}

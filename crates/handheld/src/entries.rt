@@ -3,12 +3,7 @@
 // byte or a master that does not exist is refused by 2, after the image, for it is a part of what the host hands in.
 ghost use mathlib.Core.Path.{_≡_};
 ghost use Rattle.handheld.specs.Outcome.{AskSettled, CallSettled};
-use device::numbers::ACCEPTED;
-use device::numbers::NOT_HELD;
-use device::numbers::SHORT_ANSWERS;
-use device::numbers::UNKNOWN_EVENT;
-use device::numbers::WRONG_MEMORY;
-use device::numbers::WRONG_STATE;
+use accept::is_image;
 use holding::Standing;
 use holding::bus::free_after;
 use holding::bus::master_number;
@@ -16,8 +11,13 @@ use holding::bus::may_ask;
 use holding::bus::may_call;
 use holding::bus::standing;
 use image::MEMORY;
-use image::accept::is_image;
 use lists::all_known;
+use numbers::ACCEPTED;
+use numbers::NOT_HELD;
+use numbers::SHORT_ANSWERS;
+use numbers::UNKNOWN_EVENT;
+use numbers::WRONG_MEMORY;
+use numbers::WRONG_STATE;
 use rig::Ran;
 use rig::run::refuse;
 use rig::run::run_events;

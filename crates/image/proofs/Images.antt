@@ -11,7 +11,7 @@ use native.Mathlib.Omega.{arith}
 use lib.ListN.{length, take}
 use Rattle.wire.proofs.Tests.{by-test, and-split}
 use Rattle.companion.specs.Registers.{registerBytes}
-use Rattle.device.specs.Numbers.{accepted, wrongState}
+use Rattle.numbers.specs.Numbers.{accepted, wrongState}
 use Rattle.device.specs.Power.{fresh}
 use Rattle.device.specs.Limits.{wellFormed}
 use Rattle.device.specs.declared.State.{State}

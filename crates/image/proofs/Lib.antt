@@ -1,6 +1,5 @@
 -- SPDX-License-Identifier: Apache-2.0
 pub mod Images
-pub mod BusBytes
 pub mod Accepts
 pub mod Places
 pub mod Unique

@@ -1,31 +1,21 @@
 -- SPDX-License-Identifier: Apache-2.0
--- Which images are accepted, as one test, and the tests of bytes that decide it. All is auxiliary: the contracts of the
--- entries speak of `decodeOf`.
+-- Which images are accepted, as one test, and the parts of an image that its laws speak of. All is auxiliary: the contracts
+-- of the entries speak of `decodeOf`.
 --   isImage                     the test inside `decodeOf`, by name
 --   theEnd, companionBytes      bytes 30 to 63 of every image; bytes 0 to 22 of a companion
---   transferBytes, wordAt       bytes 26 to 29 of a phase; four bytes as one number
---   placesWithin                the limits that lie in bytes 0 to 24
---   standsFor, busWithin        bytes 25 to 29 are written by some supplies and some phase, within their limits
---   busTested                   the same, by the tests that the code makes
+--   transferBytes               bytes 26 to 29 of a phase
 -- Assumes nothing.
-use Prim.Native.Nat.{ℕ, _+_, _*_, _/_, _^_}
-use mathlib.Core.Bool.{Bool, true, false, cond, not, _&&_, _||_}
+use Prim.Native.Nat.{ℕ}
+use mathlib.Core.Bool.{Bool, _&&_}
 use mathlib.Core.List.{List, [], _∷_, _++_}
-use lib.Dec.{eqb, leb, ltb}
-use lib.ListN.{getD, replicate}
-use Rattle.wire.specs.Slave.{slaveNames, answers}
-use Rattle.wire.specs.Limits.{phaseWithin}
+use lib.ListN.{replicate}
 use Rattle.wire.specs.declared.Phase.{Phase}
-use Rattle.bus.specs.Limits.{powerWithin}
-use Rattle.companion.specs.Map.{LAST}
-use Rattle.companion.specs.Part.{isWithin}
 use Rattle.companion.specs.Registers.{registerBytes}
 use Rattle.companion.specs.declared.Companion.{Companion}
-use Rattle.device.specs.Chip.{memorySize}
-use Rattle.device.specs.Limits.{isLegal, wellFormed}
-use Rattle.frame.specs.Layout.{powerOf, transferOf, phaseOf}
+use Rattle.device.specs.Limits.{wellFormed}
+use Rattle.frame.specs.Layout.{transferOf}
 use Rattle.frame.specs.Bytes.{sameBytes}
-use Rattle.image.specs.Image.{mark, calendarBytes, imageOf, companionAt, candidate}
+use Rattle.image.specs.Image.{mark, calendarBytes, imageOf, candidate}
 
 -- The candidate is well-formed and writes this very image.
 unfoldable pub isImage : List ℕ → Bool
@@ -41,40 +31,3 @@ companionBytes c = registerBytes (c .registers) ++ calendarBytes (c .core) ++ c 
 -- Bytes 26 to 29.
 abbrev pub transferBytes : Phase → List ℕ
 transferBytes p = transferOf p .phase ∷ transferOf p .clocks ∷ transferOf p .byte ∷ transferOf p .first ∷ []
-
--- Low byte first.
-abbrev pub wordAt : List ℕ → ℕ → ℕ
-wordAt i n = getD i n 0 + getD i (n + 1) 0 * 0x100 + getD i (n + 2) 0 * 0x10000 + getD i (n + 3) 0 * 0x1000000
-
--- The registers, the core and the two addresses.
-abbrev pub placesWithin : List ℕ → Bool
-placesWithin i = ltb (getD i 23 0 * 256 + getD i 24 0) memorySize && isWithin (companionAt i)
-
--- Some phase writes these four numbers: a phase's first byte is 0 but in the second address byte of a memory write.
-unfoldable pub transferStands : ℕ → ℕ → ℕ → ℕ → Bool
-transferStands n k b f =
-    cond (eqb n 0) (eqb k 0 && eqb b 0 && eqb f 0) (cond (eqb n 3) true (leb n 8 && eqb f 0))
-
--- Some supplies and some phase write these five.
-unfoldable pub standsFor : ℕ → ℕ → ℕ → ℕ → ℕ → Bool
-standsFor p n k b f = leb p 2 && transferStands n k b f
-
--- And they are within their limits.
-unfoldable pub busWithin : ℕ → ℕ → ℕ → ℕ → ℕ → Bool
-busWithin p n k b f =
-    standsFor p n k b f && phaseWithin slaveNames isLegal (phaseOf n k b f) && powerWithin (powerOf p) (phaseOf n k b f)
-
--- By the code's tests: a byte that comes in; a transfer under way; any phase.
-unfoldable pub incomingWithin : ℕ → ℕ → ℕ → Bool
-incomingWithin n k b =
-    cond (ltb k 8) (eqb (b / 2 ^ k) 0)
-    (cond (eqb n 1) (answers (slaveNames b)) (cond (eqb n 4) (leb b LAST) true))
-
-unfoldable pub transferWithin : ℕ → ℕ → ℕ → ℕ → Bool
-transferWithin n k b f =
-    cond (ltb 8 n || ltb 8 k) false
-    (cond (not (eqb f 0) && not (eqb n 3)) false (cond (leb 7 n) (not (eqb k 0) || eqb b 0) (incomingWithin n k b)))
-
-unfoldable pub busTested : ℕ → ℕ → ℕ → ℕ → ℕ → Bool
-busTested p n k b f =
-    cond (eqb n 0) (leb p 2 && (eqb k 0 && eqb b 0 && eqb f 0)) (cond (eqb p 0) (transferWithin n k b f) false)

@@ -11,7 +11,7 @@ use mathlib.Core.Path.{_≡_}
 use mathlib.Core.Bool.{true}
 use mathlib.Core.List.{List}
 use mathlib.Core.Option.{Option, some, none}
-use Rattle.device.specs.Numbers.{accepted, wrongState}
+use Rattle.numbers.specs.Numbers.{accepted, wrongState}
 use Rattle.device.specs.Limits.{wellFormed}
 use Rattle.device.specs.declared.State.{State}
 use Rattle.image.specs.Image.{imageOf}

@@ -1,14 +1,11 @@
 // SPDX-License-Identifier: Apache-2.0
-// The image of a state, 64 bytes, both ways. An image is accepted exactly if a well-formed state writes it; what is read
-// is then the one state that could have written it.
+// The image of a state, 64 bytes, both ways. Which images are accepted is the matter of `accept`.
 //
-// accept  whether an image is accepted, by tests of its bytes
 // read    the state in an image, and its parts
 // write   a state's image, whole or over another's
 use device::MEMORY_SIZE;
 use device::State;
 
-pub mod accept;
 pub mod read;
 pub mod write;
 

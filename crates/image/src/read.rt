@@ -1,18 +1,16 @@
 // SPDX-License-Identifier: Apache-2.0
 // The state in an image, and its parts, by their places.
 ghost use mathlib.Core.Path.{_≡_};
-ghost use Prim.Native.Nat.{_+_, _*_, _≤_};
+ghost use Prim.Native.Nat.{_≤_};
 ghost use lib.ListN.{length};
 ghost use Rattle.companion.specs.Registers.{registersOf};
 ghost use Rattle.image.specs.Image.{imageSize, calendarAt, companionAt, candidate};
-ghost use Rattle.image.specs.Reading.{DecodeSettled};
-use crate::Decoded;
-use crate::accept::is_image;
 use calendar::Calendar;
 use companion::Alarm;
 use companion::Companion;
 use companion::Registers;
 use device::State;
+use frame::bytes::pair;
 use frame::layout::phase_of;
 use frame::layout::power_of;
 
@@ -68,13 +66,6 @@ pub fn companion_at(image: &[u8]) -> Companion
     }
 }
 
-// The number that two bytes make.
-pub fn pair(high: u8, low: u8) -> u16
-    ensures { λ r. ⌜ r ≡ high * 256 + low ⌝ }
-{
-    high as u16 * 256 + low as u16
-}
-
 // The one state that could write an image of 64 bytes.
 pub fn state_at(image: &[u8]) -> State
     requires { ⌜ length (now image) ≡ imageSize ⌝ }
@@ -90,14 +81,4 @@ pub fn state_at(image: &[u8]) -> State
         address: address,
         companion: companion,
     }
-}
-
-// The well-formed state that writes an image, if there is one.
-pub fn decode(image: &[u8]) -> Decoded
-    ensures { λ r. ⌜ DecodeSettled (now (image .entry)) r ⌝ }
-{
-    if !is_image(image) {
-        return Decoded::Bad;
-    }
-    Decoded::Good(state_at(image))
 }

@@ -11,7 +11,7 @@ use mathlib.Core.Path.{_≡_}
 use mathlib.Core.Bool.{true}
 use mathlib.Core.List.{List}
 use mathlib.Core.Option.{Option, some, none}
-use Rattle.family.specs.Numbers.{accepted, wrongState}
+use Rattle.numbers.specs.Numbers.{accepted, wrongState}
 use Rattle.family.specs.Limits.{wellFormed}
 use Rattle.family.specs.declared.State.{State}
 use Rattle.image31.specs.Image.{imageOf}

@@ -18,6 +18,7 @@ use counters::Registers;
 use counters::Serial;
 use family::State;
 use frame::bytes::copy;
+use frame::bytes::pair;
 use frame::bytes::same;
 use frame::layout::phase_of;
 use frame::layout::power_number;
@@ -168,13 +169,6 @@ fn counters_at(image: &[u8]) -> Counters
         snapshot: snapshot,
         address: image[22],
     }
-}
-
-// The number that two bytes make.
-fn pair(high: u8, low: u8) -> u16
-    ensures { λ r. ⌜ r ≡ high * 256 + low ⌝ }
-{
-    high as u16 * 256 + low as u16
 }
 
 // The one state that could write an image of 64 bytes.

@@ -13,7 +13,8 @@ use mathlib.Core.Bool.{Bool, true, false, cond, _&&_}
 use mathlib.Core.List.{List}
 use lib.Dec.{eqb, ltb}
 use lib.ListN.{length, take, drop, getD}
-use Rattle.family.specs.Chip.{lone, sizeOf, fresh}
+use Rattle.bus.specs.Select.{lone}
+use Rattle.family.specs.Chip.{sizeOf, fresh}
 use Rattle.family.specs.declared.Size.{Size}
 use Rattle.family.specs.declared.Size.the-variants.{Kb64, Kb256}
 use Rattle.image31.specs.Image.{imageSize, decodeOf}

@@ -7,7 +7,7 @@ ghost use lib.ListN.{length};
 ghost use Rattle.image31set.specs.Read.{countOf, markSize, absent, unread, deviceAt, placeOf, readingOf};
 use crate::Got;
 use crate::Reading;
-use family::LONE;
+use bus::select::LONE;
 use family::Size;
 use family::State;
 use family::step::size_of;

@@ -13,12 +13,13 @@ use Rattle.weights.specs.Weight.{has}
 use Rattle.weights.proofs.Cases.{Below, none, _then_, below}
 use Rattle.calendar.specs.Next.{isValid}
 use Rattle.calendar.specs.declared.Calendar.{Calendar}
-use Rattle.companion.specs.Map.{W, R}
+use Rattle.registers.specs.Map.{W, R}
 use Rattle.companion.specs.Registers.{registerAt, putAt}
 use Rattle.companion.specs.Change.{withRegisters, withAddress}
-use Rattle.companion.specs.Control.{flagsAfter, wFalls, timeAfter}
+use Rattle.registers.specs.Control.{flagsAfter, wFalls, timeAfter}
 use Rattle.companion.specs.Write.{controlWritten, trimWritten, byteStored}
-use Rattle.companion.specs.Part.{nextAddress, steppedOf, aimOf, storeOf, loadOf, loadedOf}
+use Rattle.registers.specs.Map.{nextAddress}
+use Rattle.companion.specs.Part.{steppedOf, aimOf, storeOf, loadOf, loadedOf}
 use Rattle.companion.specs.declared.Companion.{Companion}
 use Rattle.companion.specs.declared.Taken.{Taken}
 use Rattle.device.specs.Bus.{withCompanion}

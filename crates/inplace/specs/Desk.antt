@@ -1,28 +1,21 @@
 -- SPDX-License-Identifier: Apache-2.0
 -- What the functions on a companion's bytes do, part by part. Auxiliary: laws say that the parts make up a write of 00h
--- and a tick as the companion's own definitions have them.
+-- as the companion's own definition has it.
 --   withCore, coreShown, coreLoaded   another core; 02h to 08h take the core; the core takes 02h to 08h
 --   showsCore                         whether 02h to 08h take the core where 00h is written and W does not fall
 --   controlLoaded, controlTaken       a byte for 00h with which W falls; any byte for 00h
---   tellOf                            what a tick tells once the core has moved
---   oneMore                           one more in two decimal digits
---   isTicking                         whether ticks move the core
 -- Assumes nothing.
-use Prim.Native.Nat.{ℕ, _+_, _%_}
+use Prim.Native.Nat.{ℕ}
 use mathlib.Core.Bool.{Bool, true, false, cond, not, _&&_}
-use lib.Dec.{eqb}
 use Rattle.weights.specs.Weight.{has}
 use Rattle.calendar.specs.Next.{isValid}
 use Rattle.calendar.specs.declared.Calendar.{Calendar}
-use Rattle.companion.specs.Map.{W, R, OSCEN}
+use Rattle.registers.specs.Map.{W, R}
 use Rattle.companion.specs.Change.{withTime, withRegisters}
-use Rattle.companion.specs.Control.{controlAfter, wFalls, followed}
+use Rattle.registers.specs.Control.{controlAfter, wFalls}
 use Rattle.companion.specs.Write.{controlWritten}
-use Rattle.companion.specs.Tick.{toldOf}
 use Rattle.companion.specs.declared.Companion.{Companion}
 use Rattle.companion.specs.declared.Taken.{Taken}
-use Rattle.device.specs.Power.{isSupplied}
-use Rattle.device.specs.declared.State.{State}
 
 abbrev pub withCore : Companion → Calendar → Companion
 withCore c core = record { registers = c .registers; core = core; address = c .address }
@@ -54,16 +47,3 @@ controlLoaded c b = cond (isValid (c .registers .time)) (took (coreLoaded (contr
 unfoldable pub controlTaken : Companion → ℕ → Taken
 controlTaken c b =
     cond (wFalls (c .registers .control) b && not (isValid (c .registers .time))) (refused c) (took (controlWritten c b))
-
-unfoldable pub tellOf : Companion → Bool → Bool → Companion
-tellOf c rung century =
-    withRegisters c
-    (withTime (c .registers) (toldOf (c .registers .control) rung century)
-    (followed (c .registers .control) (c .core) (c .registers .time)))
-
-unfoldable pub oneMore : ℕ → ℕ
-oneMore b = cond (eqb (b % 16) 9) ((b + 7) % 256) ((b + 1) % 256)
-
-unfoldable pub isTicking : State → Bool
-isTicking s =
-    isSupplied (s .power) && not (has (s .companion .registers .trim) OSCEN) && isValid (s .companion .core)

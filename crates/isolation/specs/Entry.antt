@@ -15,7 +15,7 @@ use Rattle.wire.specs.declared.Side.the-variants.{Memory, Companion}
 use Rattle.wire.specs.declared.Phase.the-variants.{Idle}
 use Rattle.bus.specs.declared.Power.the-variants.{On}
 use Rattle.device.specs.Chip.{fm3130}
-use Rattle.device.specs.Numbers.{accepted}
+use Rattle.numbers.specs.Numbers.{accepted}
 use Rattle.device.specs.declared.State.{State}
 use Rattle.image.specs.Image.{decodeOf}
 use Rattle.lists.specs.Run.{outcomeOf}

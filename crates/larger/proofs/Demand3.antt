@@ -7,7 +7,8 @@ use Rattle.counters.proofs.Guard.{aim-guard, loaded-guard}
 use Rattle.bus.specs.Desk.{partOf}
 use Rattle.merging.specs.Merge.{eventsOf}
 use Rattle.merging.specs.Demand.{OnlyWrites}
-use Rattle.family.specs.Chip.{lone, companion31}
+use Rattle.bus.specs.Select.{lone}
+use Rattle.family.specs.Chip.{companion31}
 use Rattle.parts.specs.Demand3.{bytesOf}
 use Rattle.parts.proofs.Demand3 as parts
 use Rattle.larger.specs.Demand3.{held, DemandThree}

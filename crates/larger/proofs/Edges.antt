@@ -11,7 +11,8 @@ use Rattle.bus.specs.declared.Power.the-variants.{On, Backup, Off}
 use Rattle.counters.specs.Part.{edgeOf}
 use Rattle.counters.specs.declared.Input.{Input}
 use Rattle.counters.specs.declared.Input.the-variants.{Cnt1, Cnt2}
-use Rattle.family.specs.Chip.{lone, companion31}
+use Rattle.bus.specs.Select.{lone}
+use Rattle.family.specs.Chip.{companion31}
 use Rattle.family.specs.declared.State.{State}
 use Rattle.larger.specs.Edges.{isSupplied, edgeByte, left, EdgesCount, InTransfersToo, TicksNothing}
 

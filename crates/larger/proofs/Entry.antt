@@ -14,8 +14,10 @@ use Rattle.wire.proofs.Tests.{by-test, and-split, and-join}
 use Rattle.weights.specs.Weight.{has}
 use Rattle.counters.specs.Map.{SNL}
 use Rattle.counters.specs.declared.Serial.{Serial}
-use Rattle.family.specs.Numbers.{accepted, lastEvent}
-use Rattle.family.specs.Chip.{lone, eventOf}
+use Rattle.numbers.specs.Numbers.{accepted}
+use Rattle.family.specs.Chip.{lastEvent}
+use Rattle.bus.specs.Select.{lone}
+use Rattle.family.specs.Chip.{eventOf}
 use Rattle.family.specs.Run.{Ended, runOf, answerTo}
 use Rattle.family.specs.declared.State.{State}
 use Rattle.family.proofs.Lock.{serial-locked}

@@ -31,7 +31,8 @@ use Rattle.merging.specs.Demand.{WhereWritten, IfWritten, done, one, two, insid
 use Rattle.merging.specs.Clocks.{clocks, bitsOf}
 use Rattle.merging.proofs.Reader.{moving-clocks}
 use Rattle.merging.proofs.Clocks.{slave-whole, first-clocks, second-clocks}
-use Rattle.family.specs.Chip.{lone, sizeOf, companion31, fresh}
+use Rattle.bus.specs.Select.{lone}
+use Rattle.family.specs.Chip.{sizeOf, companion31, fresh}
 use Rattle.family.specs.Run.{runOf}
 use Rattle.family.specs.declared.Size.the-variants.{Kb64, Kb256}
 use Rattle.parts.specs.Events.{Held, event, heldBy}

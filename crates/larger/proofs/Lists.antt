@@ -6,7 +6,8 @@ use Prim.Native.Nat.{ℕ, _+_, _*_}
 use mathlib.Core.Path.{_≡_, refl}
 use mathlib.Core.Bool.{Bool, true, false, cond}
 use mathlib.Core.List.{List, [], _∷_}
-use Rattle.family.specs.Chip.{lone, companion31, eventOf}
+use Rattle.bus.specs.Select.{lone}
+use Rattle.family.specs.Chip.{companion31, eventOf}
 use Rattle.family.specs.Step.{stateOf}
 use Rattle.family.specs.Run.{runOf}
 use Rattle.family.specs.declared.State.{State}

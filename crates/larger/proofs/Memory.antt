@@ -10,13 +10,14 @@ use Rattle.counters.specs.Part.{guardOf, lostOf, returnedOf}
 use Rattle.counters.specs.declared.Counters.{Counters}
 use Rattle.counters.proofs.Guard.{aim-guard, loaded-guard, edge-guard}
 use Rattle.bus.specs.Event.{happening, Done}
-use Rattle.bus.specs.Serve.{deedOf, servedOf}
+use Rattle.deeds.specs.Serve.{deedOf, servedOf}
 use Rattle.bus.specs.declared.Beat.{Beat}
 use Rattle.bus.specs.declared.Beat.the-variants.{Second, Cnt1, Cnt2}
-use Rattle.bus.specs.declared.Deed.{Deed}
-use Rattle.bus.specs.declared.Deed.the-variants as deed
-use Rattle.bus.proofs.Split.{split}
-use Rattle.family.specs.Chip.{lone, companion31, beaten}
+use Rattle.deeds.specs.declared.Deed.{Deed}
+use Rattle.deeds.specs.declared.Deed.the-variants as deed
+use Rattle.deeds.proofs.Split.{split}
+use Rattle.bus.specs.Select.{lone}
+use Rattle.family.specs.Chip.{companion31, beaten}
 use Rattle.family.specs.Run.{runOf}
 use Rattle.family.proofs.Entry.{limits-of}
 use Rattle.run31.proofs.Runs.{run-ok}

@@ -9,7 +9,7 @@ use native.Mathlib.Omega.{arith}
 use lib.Dec.{leb}
 use borrow.Author.Tests.{lt-leb, leb-false}
 use Rattle.wire.proofs.Tests.{by-test}
-use Rattle.family.specs.Numbers.{lastEvent}
+use Rattle.family.specs.Chip.{lastEvent}
 use Rattle.run31.specs.Run.{allKnown}
 use Rattle.rig31.specs.Run.{Outcome}
 use Rattle.rig31.proofs.Runs.{outcome-wrong-memory, outcome-wrong-image, outcome-unknown-event}

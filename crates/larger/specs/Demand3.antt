@@ -15,7 +15,8 @@ use Rattle.bus.specs.declared.Power.the-variants.{On}
 use Rattle.merging.specs.Merge.{eventsOf, picked}
 use Rattle.merging.specs.Party.{to, isMemory, isCompanion, BusEvent, PartyEvent, Whole}
 use Rattle.merging.specs.Demand.{Merge}
-use Rattle.family.specs.Chip.{lone, companion31}
+use Rattle.bus.specs.Select.{lone}
+use Rattle.family.specs.Chip.{companion31}
 use Rattle.family.specs.Run.{runOf}
 use Rattle.family.specs.declared.State.{State}
 use Rattle.parts.specs.Events.{Held}

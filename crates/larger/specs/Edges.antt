@@ -10,14 +10,15 @@ use mathlib.Core.Path.{_≡_}
 use mathlib.Core.Bool.{Bool, true, false, cond}
 use mathlib.Core.List.{List}
 use Rattle.bus.specs.Event.{done}
-use Rattle.bus.specs.Limits.{isIdle}
+use Rattle.bounds.specs.Limits.{isIdle}
 use Rattle.bus.specs.declared.Power.{Power}
 use Rattle.bus.specs.declared.Power.the-variants.{On, Backup, Off}
 use Rattle.counters.specs.Part.{edgeOf}
 use Rattle.counters.specs.declared.Counters.{Counters}
 use Rattle.counters.specs.declared.Input.{Input}
 use Rattle.counters.specs.declared.Input.the-variants.{Cnt1, Cnt2}
-use Rattle.family.specs.Chip.{lone, companion31, Done, eventOf}
+use Rattle.bus.specs.Select.{lone}
+use Rattle.family.specs.Chip.{companion31, Done, eventOf}
 use Rattle.family.specs.declared.State.{State}
 
 -- "Power or backup is present."

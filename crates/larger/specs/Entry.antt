@@ -13,8 +13,8 @@ use mathlib.Core.List.{List, [], _∷_, _++_}
 use lib.ListN.{length, getD, take, drop}
 use Rattle.weights.specs.Weight.{has}
 use Rattle.counters.specs.Map.{SNL}
-use Rattle.family.specs.Chip.{lone}
-use Rattle.family.specs.Numbers.{accepted}
+use Rattle.bus.specs.Select.{lone}
+use Rattle.numbers.specs.Numbers.{accepted}
 use Rattle.family.specs.declared.State.{State}
 use Rattle.image31.specs.Image.{decodeOf}
 use Rattle.rig31.specs.Run.{outcomeOf}

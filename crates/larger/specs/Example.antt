@@ -15,7 +15,8 @@ use Rattle.bus.specs.declared.Beat.the-variants.{Cnt1, Cnt2}
 use Rattle.merging.specs.Merge.{Said, by, eventsOf}
 use Rattle.merging.specs.Party.{Party, to}
 use Rattle.merging.specs.Clocks.{clocks, clocksBy, bitsOf}
-use Rattle.family.specs.Chip.{lone, sizeOf, companion31, fresh}
+use Rattle.bus.specs.Select.{lone}
+use Rattle.family.specs.Chip.{sizeOf, companion31, fresh}
 use Rattle.family.specs.Run.{Ended, runOf}
 use Rattle.family.specs.declared.Size.{Size}
 use Rattle.parts.specs.Demand3.{bytesOf}

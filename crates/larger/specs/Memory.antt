@@ -13,9 +13,10 @@ use lib.ListN.{length, getD}
 use Rattle.wire.specs.Memory.{isProtected}
 use Rattle.counters.specs.Part.{guardOf}
 use Rattle.bus.specs.Event.{happening}
-use Rattle.bus.specs.Serve.{deedOf}
-use Rattle.bus.specs.declared.Deed.the-variants.{Store}
-use Rattle.family.specs.Chip.{lone, eventOf}
+use Rattle.deeds.specs.Serve.{deedOf}
+use Rattle.deeds.specs.declared.Deed.the-variants.{Store}
+use Rattle.bus.specs.Select.{lone}
+use Rattle.family.specs.Chip.{eventOf}
 use Rattle.family.specs.Limits.{wellFormed}
 use Rattle.family.specs.Run.{runOf}
 use Rattle.family.specs.declared.State.{State}

@@ -6,7 +6,7 @@ use Prim.Native.Nat.{ℕ, _≤_, _<_}
 use mathlib.Core.Path.{_≡_}
 use mathlib.Core.List.{List, _∷_, _++_}
 use lib.ListN.{length}
-use Rattle.family.specs.Chip.{lone}
+use Rattle.bus.specs.Select.{lone}
 use Rattle.family.specs.declared.State.{State}
 use Rattle.image31.specs.Image.{decodeOf}
 use Rattle.rig31.specs.Run.{refused, outcomeOf}

@@ -26,10 +26,10 @@ use Rattle.wire.specs.declared.Phase.{Phase}
 use Rattle.wire.specs.declared.Phase.the-variants.{Idle, Slave, AddressHigh, AddressLow, Pointer, Write, Read}
 use Rattle.wire.proofs.Tests.{by-test, and-split}
 use Rattle.wire.proofs.Clock.{received-inside, received-last, received-ack, sent-first, sent-within, sent-last, sent-ack}
-use Rattle.bus.specs.Limits.{isIdle, powerWithin}
+use Rattle.bounds.specs.Limits.{isIdle, powerWithin}
 use Rattle.bus.specs.declared.Power.{Power}
 use Rattle.bus.specs.declared.Power.the-variants.{On, Backup, Off}
-use Rattle.companion.specs.Map.{W}
+use Rattle.registers.specs.Map.{W}
 use Rattle.companion.specs.Part.{aimOf, loadsBadDate, storeOf, loadOf, loadedOf, guardOf, isWithin}
 use Rattle.companion.specs.declared.Companion as C
 use Rattle.device.specs.Desk.{aims, stores}

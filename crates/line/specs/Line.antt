@@ -26,7 +26,7 @@ use Rattle.wire.specs.declared.Named.the-variants.{Nobody, Reads, Writes}
 use Rattle.wire.specs.declared.Phase.{Phase}
 use Rattle.companion.specs.Part.{loadsBadDate, loadOf, guardOf}
 use Rattle.companion.specs.declared.Companion as C
-use Rattle.device.specs.Numbers.{wrongMemory, wrongState}
+use Rattle.numbers.specs.Numbers.{wrongMemory, wrongState}
 use Rattle.device.specs.Chip.{memorySize, fm3130}
 use Rattle.device.specs.Event.{eventOf}
 use Rattle.device.specs.declared.State.{State}

@@ -12,7 +12,7 @@ use native.Mathlib.Omega.{arith}
 use lib.ListN.{length, drop}
 use lib.Seq.{take-at}
 use Rattle.wire.proofs.Tests.{and-split, and-join}
-use Rattle.device.specs.Numbers.{accepted}
+use Rattle.numbers.specs.Numbers.{accepted}
 use Rattle.device.specs.declared.State.{State}
 use Rattle.image.specs.Image.{imageOf, decodeOf}
 use Rattle.lists.specs.Run.{Ended, runOf, allKnown, outcomeOf}

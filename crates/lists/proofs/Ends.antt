@@ -11,7 +11,7 @@ use lib.Dec.{leb, eqb}
 use lib.ListN.{length}
 use borrow.Author.Tests.{eqb-true, eqb-false, leb-true, leb-false}
 use Rattle.wire.proofs.Tests.{by-test}
-use Rattle.device.specs.Numbers.{accepted}
+use Rattle.numbers.specs.Numbers.{accepted}
 use Rattle.device.specs.Chip.{memorySize}
 use Rattle.device.specs.declared.State.{State}
 use Rattle.image.specs.Image.{decodeOf}

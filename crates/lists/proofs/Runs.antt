@@ -15,7 +15,7 @@ use lib.ListN.{length, take, drop, getD, set, drop-of-length-le, take-append-dro
 use lib.Seq.{take-suc-set, drop-cons, drop-set-lt, drop-drop}
 use borrow.Author.Tests.{le-leb, lt-leb, leb-true, eq-eqb, ne-eqb}
 use Rattle.wire.proofs.Tests.{and-split}
-use Rattle.device.specs.Numbers.{accepted, wrongMemory, wrongState, unknownEvent, shortAnswers}
+use Rattle.numbers.specs.Numbers.{accepted, wrongMemory, wrongState, unknownEvent, shortAnswers}
 use Rattle.device.specs.Chip.{memorySize}
 use Rattle.device.specs.Event.{eventOf}
 use Rattle.device.specs.Limits.{wellFormed}

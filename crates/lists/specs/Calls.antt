@@ -12,7 +12,7 @@ use Prim.Native.Nat.{ℕ, _≤_}
 use mathlib.Core.Path.{_≡_}
 use mathlib.Core.List.{List, [], _∷_, _++_}
 use lib.ListN.{length, take}
-use Rattle.device.specs.Numbers.{accepted}
+use Rattle.numbers.specs.Numbers.{accepted}
 use Rattle.lists.specs.Run.{Outcome, outcomeOf}
 
 -- The two buffers that a call has for itself; image and memory are handed on.

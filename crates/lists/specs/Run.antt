@@ -10,7 +10,7 @@ use mathlib.Core.List.{List, [], _∷_, _++_}
 use mathlib.Core.Option.{Option, some, none}
 use lib.Dec.{leb, eqb}
 use lib.ListN.{length, drop}
-use Rattle.device.specs.Numbers.{accepted, wrongMemory, unknownEvent, shortAnswers}
+use Rattle.numbers.specs.Numbers.{accepted, wrongMemory, unknownEvent, shortAnswers}
 use Rattle.device.specs.Chip.{memorySize, Done}
 use Rattle.device.specs.Event.{eventOf}
 use Rattle.device.specs.Answer.{answerByte}

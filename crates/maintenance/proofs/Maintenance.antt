@@ -13,7 +13,7 @@ use Rattle.wire.specs.Machine.{start, stop, clock}
 use Rattle.wire.specs.declared.Phase.{Phase}
 use Rattle.wire.specs.declared.Phase.the-variants.{Idle}
 use Rattle.wire.proofs.Tests.{by-test, and-split, and-join}
-use Rattle.bus.specs.Limits.{isIdle}
+use Rattle.bounds.specs.Limits.{isIdle}
 use Rattle.bus.specs.declared.Power.{Power}
 use Rattle.bus.specs.declared.Power.the-variants.{On, Backup, Off}
 use Rattle.device.specs.Event.{Happening, onWire, second, lost, gone, returned, happening, eventOn, eventOf}

@@ -23,7 +23,7 @@ use Rattle.wire.specs.declared.Phase.the-variants.{Read}
 use Rattle.wire.proofs.Cells.{fetch-bytes}
 use Rattle.wire.proofs.HighFirst.{pushed-sent}
 use Rattle.wire.proofs.Tests.{by-test, and-split}
-use Rattle.bus.specs.Limits.{powerWithin}
+use Rattle.bounds.specs.Limits.{powerWithin}
 use Rattle.bus.specs.declared.Power.{Power}
 use Rattle.bus.specs.declared.Power.the-variants.{On, Backup, Off}
 use Rattle.companion.specs.declared.Companion as Part

@@ -25,7 +25,7 @@ use Rattle.wire.specs.declared.Named.the-variants.{Nobody, Reads, Writes}
 use Rattle.wire.specs.declared.Phase.{Phase}
 use Rattle.wire.specs.declared.Phase.the-variants.{Idle, Slave, AddressHigh, AddressLow, Pointer, Write, Read}
 use Rattle.wire.proofs.Tests.{by-test}
-use Rattle.bus.specs.Limits.{isIdle}
+use Rattle.bounds.specs.Limits.{isIdle}
 use Rattle.companion.specs.declared.Companion as Part
 use Rattle.device.specs.Chip.{fm3130}
 use Rattle.device.specs.Event.{eventOf}

@@ -21,7 +21,7 @@ use Rattle.companion.specs.Limits.{isWithin}
 use Rattle.companion.specs.declared.Companion.{Companion}
 use Rattle.companion.proofs.LimitFacts.{within-facts, within-test}
 use Rattle.device.specs.Limits.{wellFormed}
-use Rattle.device.specs.Numbers.{accepted}
+use Rattle.numbers.specs.Numbers.{accepted}
 use Rattle.device.specs.declared.State.{State}
 use Rattle.device.proofs.Entry.{limits-of, of-limits}
 use Rattle.image.specs.Image.{calendarBytes, calendarAt, imageOf, decodeOf}

@@ -10,7 +10,7 @@ use lib.Dec.{leb, lit≤}
 use lib.ListN.{length, drop, take-append-drop}
 use borrow.Author.Tests.{le-leb, lt-leb, leb-true, leb-false}
 use Rattle.wire.proofs.Tests.{by-test}
-use Rattle.device.specs.Numbers.{accepted, wrongState, shortAnswers}
+use Rattle.numbers.specs.Numbers.{accepted, wrongState, shortAnswers}
 use Rattle.device.specs.declared.State.{State}
 use Rattle.image.specs.Image.{imageOf, decodeOf}
 use Rattle.image.specs.Reading.{WrittenBy}

@@ -17,7 +17,7 @@ use lib.ListN.{length, take, drop}
 use Rattle.calendar.specs.Next.{isValid}
 use Rattle.calendar.specs.Mend.{mendedOf}
 use Rattle.calendar.specs.declared.Calendar.{Calendar}
-use Rattle.device.specs.Numbers.{accepted}
+use Rattle.numbers.specs.Numbers.{accepted}
 use Rattle.device.specs.declared.State.{State}
 use Rattle.image.specs.Image.{calendarAt, imageOf}
 use Rattle.image.specs.Reading.{WrittenBy}

@@ -17,7 +17,7 @@ use lib.ListN.{length, drop}
 use Rattle.calendar.specs.Mend.{mendedOf}
 use Rattle.companion.specs.Change.{withTime}
 use Rattle.companion.specs.declared.Companion.{Companion}
-use Rattle.device.specs.Numbers.{accepted, wrongState, shortAnswers}
+use Rattle.numbers.specs.Numbers.{accepted, wrongState, shortAnswers}
 use Rattle.device.specs.declared.State.{State}
 use Rattle.image.specs.Image.{calendarBytes, imageOf, decodeOf}
 use Rattle.image.specs.declared.Decoded.{Decoded}

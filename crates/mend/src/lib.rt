@@ -11,15 +11,15 @@ mod changes;
 
 use crate::changes::count_changes;
 use crate::changes::write_changes;
+use accept::decode;
 use companion::Companion;
 use companion::Registers;
 use device::State;
-use device::numbers::ACCEPTED;
-use device::numbers::SHORT_ANSWERS;
-use device::numbers::WRONG_STATE;
 use image::Decoded;
-use image::read::decode;
 use image::write::write_image;
+use numbers::ACCEPTED;
+use numbers::SHORT_ANSWERS;
+use numbers::WRONG_STATE;
 
 // The bytes that are listed of a register: its number, the old byte, the new byte.
 pub const LISTED: usize = 3;

@@ -7,7 +7,7 @@ use mathlib.Core.List.{List}
 use lib.Dec.{eqb}
 use borrow.Author.Tests.{eqb-true, eqb-false}
 use Rattle.wire.proofs.Tests.{by-test}
-use Rattle.device.specs.Numbers.{accepted}
+use Rattle.numbers.specs.Numbers.{accepted}
 use Rattle.lists.specs.Run.{Outcome, outcomeOf}
 use Rattle.lists.proofs.Ends.{run-count, run-refused}
 use Rattle.narrow.specs.Number.{NumberSettled}

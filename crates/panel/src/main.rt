@@ -4,9 +4,9 @@
 // of the byte in the input, counted from 0, and the report in hex, bit k for lamp k.
 use image::LENGTH;
 use image::MEMORY;
+use kept::RECORD;
 use libc::STDIN_FILENO;
 use libc::STDOUT_FILENO;
-use proving::run::RECORD;
 use proving::run::fm3130_lamps;
 use rig::run::fm3130_fresh;
 

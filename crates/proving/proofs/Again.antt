@@ -25,14 +25,14 @@ use Rattle.image.proofs.Images.{image-decode}
 use Rattle.eight.specs.Eight.{bit, lampNext}
 use Rattle.lamps.specs.Step.{markBy, gathered, followed, stepOf}
 use Rattle.lamps.specs.Statement.{answeredBy, provenBy}
-use Rattle.proving.specs.Kept.{keptOf, bytesOf, lampFits, lampsIn, lampsFit, isKept}
+use Rattle.kept.specs.Kept.{keptOf, bytesOf, lampFits, lampsIn, lampsFit, isKept}
 use Rattle.eight.specs.declared.Mark.{Mark}
 use Rattle.eight.specs.declared.Mark.the-variants.{Failed, Ended, Ticked, Gave, Other}
 use Rattle.lamps.specs.declared.Follower.{Follower}
 use Rattle.eight.specs.declared.Lamp.{Lamp}
 use Rattle.lamps.specs.declared.Proving.{Proving}
 use Rattle.proving.specs.Laws.{TakenAgain}
-use Rattle.proving.proofs.Loop.{kept-length}
+use Rattle.kept.proofs.Bytes.{kept-length}
 
 fits-next : (at : ℕ) (x : Mark) (l : Lamp) → lampFits l ≡ true → lampFits (lampNext at x l) ≡ true
 fits-next at Failed l h = refl

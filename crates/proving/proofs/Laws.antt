@@ -10,7 +10,7 @@ use native.Mathlib.Omega.{arith}
 use lib.Dec.{leb, eqb}
 use lib.ListN.{length, replicate}
 use Rattle.device.specs.Chip.{memorySize}
-use Rattle.device.specs.Numbers.{accepted, wrongMemory, wrongState, unknownEvent, shortAnswers}
+use Rattle.numbers.specs.Numbers.{accepted, wrongMemory, wrongState, unknownEvent, shortAnswers}
 use Rattle.device.specs.declared.State.{State}
 use Rattle.image.specs.Image.{decodeOf}
 use Rattle.image.specs.Reading.{decodedSays}
@@ -22,10 +22,10 @@ use Rattle.lamps.specs.Step.{begun, reportOf}
 use Rattle.lamps.specs.Statement.{provenBy}
 use Rattle.lamps.specs.declared.Proving.{Proving}
 use Rattle.lamps.proofs.Proven.{proven}
-use Rattle.proving.specs.Kept.{keptSize, keptOf, isKept}
+use Rattle.kept.specs.Kept.{keptSize, keptOf, isKept}
 use Rattle.proving.specs.Run.{Outcome, refused, written, onDecoded, outcomeOf}
 use Rattle.proving.specs.Laws.{AsTheListRun, ReportsTheDefinition}
-use Rattle.proving.proofs.Bytes.{none-kept}
+use Rattle.kept.proofs.Bytes.{none-kept}
 
 -- two outcomes that a caller of the plain list run cannot tell apart, but for the count
 record Same (o : Outcome) (p : Plain.Outcome) : Type 0 where

@@ -1,5 +1,5 @@
 -- SPDX-License-Identifier: Apache-2.0
 pub mod Loop
-pub mod Bytes
+pub mod Pieces
 pub mod Again
 pub mod Laws

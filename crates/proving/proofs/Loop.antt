@@ -3,16 +3,13 @@
 -- Assumes nothing.
 use Prim.Native.Nat.{ℕ, _+_, _≤_, _<_}
 use mathlib.Core.Path.{_≡_, sym, ap, _∙_}
-use mathlib.Core.Bool.{Bool, true, false, cond}
+use mathlib.Core.Bool.{true, false}
 use mathlib.Core.List.{List}
-use native.Mathlib.Omega.{arith}
 use native.Mathlib.Numerals.{add-one}
-use lib.Dec.{eqb}
 use lib.ListN.{length, getD, drop, drop-of-length-le}
 use lib.Seq.{drop-cons}
-use borrow.Author.Tests.{le-leb, lt-leb, eq-eqb, ne-eqb, eqb-true}
-use Rattle.wire.proofs.Tests.{by-test}
-use Rattle.device.specs.Numbers.{accepted, wrongMemory, wrongState, unknownEvent, shortAnswers}
+use borrow.Author.Tests.{le-leb, lt-leb, eq-eqb, ne-eqb}
+use Rattle.numbers.specs.Numbers.{accepted, wrongMemory, wrongState, unknownEvent, shortAnswers}
 use Rattle.device.specs.Chip.{memorySize}
 use Rattle.device.specs.Event.{eventOf}
 use Rattle.device.specs.declared.State.{State}
@@ -21,7 +18,7 @@ use Rattle.lists.specs.Run.{runOf, allKnown}
 use Rattle.image.specs.declared.Decoded.the-variants.{Good, Bad}
 use Rattle.lamps.specs.Step.{stepOf, reportOf}
 use Rattle.lamps.specs.Statement.{answeredBy, provenBy}
-use Rattle.proving.specs.Kept.{keptSize, keptOf, bytesOf, isKept}
+use Rattle.kept.specs.Kept.{keptOf, bytesOf, isKept}
 use Rattle.proving.specs.Run.{refused, written, seen, outcomeOf, RanWith}
 use Rattle.lamps.specs.declared.Proving.{Proving}
 use Rattle.proving.specs.declared.Reached.{Reached}
@@ -37,15 +34,6 @@ proven-more p s m es i h =
 
 pub proven-end : (p : Proving) (s : State) (m es : List ℕ) (i : ℕ) → length es ≤ i → provenBy p s m (drop i es) ≡ p
 proven-end p s m es i h = rw (drop-of-length-le es h)
-
-pub kept-length : (b : List ℕ) → isKept b ≡ true → length b ≡ keptSize
-unfolding isKept
-kept-length b h =
-    by-test (eqb (length b) keptSize) (λ q. eqb-true (length b) keptSize q)
-    (λ q. let z : false ≡ true = rw q at h in absurd (never z))
-  where
-    never : false ≡ true → ⊥
-    never z = let y : _≡_ {A = ℕ} 0 1 = ap (λ (t : Bool). cond t 1 0) z in omega arith
 
 module _ (i m es a b : List ℕ) where
   pub wrong-memory : (length m ≡ memorySize → ⊥) → outcomeOf i m es a b ≡ refused wrongMemory i m a b

@@ -1,6 +1,5 @@
 -- SPDX-License-Identifier: Apache-2.0
--- What the record's bytes and the list run are worth to a caller (02, request 11).
---   KeptBytes, NoneKept        the bytes of a record hold that record; 20 zeros are the record before any event
+-- What the list run with the record is worth to a caller (02, request 11).
 --   TakenAgain, InPieces       what a call leaves is taken by the next call; a list in two pieces is the whole list
 --   AsTheListRun               number, image, memory and answers are those of the plain list run
 --   ReportsTheDefinition       the report of a call on a record of zeros is the definition's
@@ -12,7 +11,7 @@ use mathlib.Core.List.{List, _++_}
 use lib.ListN.{length, getD, replicate}
 use Rattle.wire.specs.declared.Phase.the-variants.{Idle}
 use Rattle.device.specs.Chip.{memorySize}
-use Rattle.device.specs.Numbers.{accepted}
+use Rattle.numbers.specs.Numbers.{accepted}
 use Rattle.device.specs.declared.State.{State}
 use Rattle.image.specs.Image.{decodeOf}
 use Rattle.lists.specs.Run.{runOf}
@@ -21,15 +20,8 @@ use Rattle.image.specs.declared.Decoded.the-variants.{Good}
 use Rattle.lamps.specs.Step.{begun}
 use Rattle.lamps.specs.Statement.{provenBy, deserved, logged}
 use Rattle.lamps.specs.declared.Proving.{Proving}
-use Rattle.proving.specs.Kept.{keptSize, keptOf, bytesOf, isKept}
+use Rattle.kept.specs.Kept.{keptSize, keptOf, bytesOf, isKept}
 use Rattle.proving.specs.Run.{outcomeOf}
-
-abbrev pub KeptBytes : Type 0
-KeptBytes = (r : Proving) → keptOf (bytesOf r) ≡ r
-
-pub record NoneKept : Type 0 where
-  pub held : keptOf (replicate keptSize 0) ≡ begun
-  pub taken : isKept (replicate keptSize 0) ≡ true
 
 -- The last condition but one says that byte 2 is a byte.
 abbrev pub TakenAgain : Type 0

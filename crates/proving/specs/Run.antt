@@ -8,7 +8,7 @@ use mathlib.Core.Bool.{cond}
 use mathlib.Core.List.{List}
 use lib.Dec.{leb, eqb}
 use lib.ListN.{length}
-use Rattle.device.specs.Numbers.{accepted, wrongMemory, wrongState, unknownEvent, shortAnswers}
+use Rattle.numbers.specs.Numbers.{accepted, wrongMemory, wrongState, unknownEvent, shortAnswers}
 use Rattle.device.specs.Chip.{memorySize}
 use Rattle.device.specs.declared.State.{State}
 use Rattle.image.specs.Image.{imageOf, decodeOf}
@@ -17,7 +17,7 @@ use Rattle.image.specs.declared.Decoded.{Decoded}
 use Rattle.image.specs.declared.Decoded.the-variants.{Good, Bad}
 use Rattle.lamps.specs.Step.{reportOf}
 use Rattle.lamps.specs.Statement.{provenBy}
-use Rattle.proving.specs.Kept.{keptOf, bytesOf, isKept}
+use Rattle.kept.specs.Kept.{keptOf, bytesOf, isKept}
 use Rattle.lamps.specs.declared.Proving.{Proving}
 use Rattle.proving.specs.declared.Reached.{Reached}
 use Rattle.proving.specs.declared.Shown.{Shown}

@@ -1,13 +1,9 @@
 // SPDX-License-Identifier: Apache-2.0
 // The list run with the proving record, for C. The record lies in a buffer of the caller's, as the image does, so this
-// program keeps nothing between calls.
-//
-// kept     the record as bytes
-// run      the list run with the record
+// program keeps nothing between calls; its bytes are the matter of `kept`.
 use device::State;
 use lamps::Proving;
 
-mod kept;
 pub mod run;
 
 // What a list of events leads to.

@@ -10,24 +10,21 @@ ghost use Rattle.lists.specs.Run.{allKnown};
 ghost use Rattle.proving.specs.Run.{RanWith, LampsSettled};
 use crate::Reached;
 use crate::Shown;
-use crate::kept::is_kept;
-use crate::kept::read;
-use crate::kept::write;
+use accept::decode;
 use device::State;
-use device::numbers::ACCEPTED;
-use device::numbers::SHORT_ANSWERS;
-use device::numbers::UNKNOWN_EVENT;
-use device::numbers::WRONG_MEMORY;
-use device::numbers::WRONG_STATE;
 use image::Decoded;
 use image::MEMORY;
-use image::read::decode;
 use image::write::write_image;
+use kept::is_kept;
+use kept::read;
+use kept::write;
 use lamps::Proving;
 use lists::all_known;
-
-// The bytes of a record.
-pub const RECORD: usize = 20;
+use numbers::ACCEPTED;
+use numbers::SHORT_ANSWERS;
+use numbers::UNKNOWN_EVENT;
+use numbers::WRONG_MEMORY;
+use numbers::WRONG_STATE;
 
 // All events, one by one, the record stepped with the device.
 fn follow_events(

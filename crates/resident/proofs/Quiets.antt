@@ -11,7 +11,7 @@ use native.Mathlib.Omega.{arith}
 use Rattle.wire.specs.Machine.{Line, start, stop, clock, lined}
 use Rattle.wire.specs.declared.Phase.{Phase}
 use Rattle.wire.specs.declared.Phase.the-variants.{Idle, Slave, AddressHigh, AddressLow, Pointer, Write, Read}
-use Rattle.bus.specs.Limits.{isIdle, powerWithin}
+use Rattle.bounds.specs.Limits.{isIdle, powerWithin}
 use Rattle.frame.specs.Layout.{powerNumber}
 use Rattle.bus.specs.declared.Power.{Power}
 use Rattle.bus.specs.declared.Power.the-variants.{On, Backup, Off}

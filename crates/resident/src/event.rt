@@ -19,11 +19,11 @@ use crate::Told;
 use calendar::Rolled;
 use clocking::receive::begin;
 use clocking::send::clock;
-use companion::pin::pin_by;
-use companion::power::por_set;
 use device::State;
 use image::write::write_over;
-use inplace::tick::tick;
+use registers::control::por_set;
+use registers::pin::pin_by;
+use ticking::tick;
 
 // Where the supplies lie, and their numbers.
 const SUPPLIES: usize = 25;

@@ -8,7 +8,7 @@ use mathlib.Core.Bool.{cond}
 use mathlib.Core.List.{List}
 use lib.Dec.{eqb}
 use lib.ListN.{length}
-use Rattle.device.specs.Numbers.{accepted, wrongState}
+use Rattle.numbers.specs.Numbers.{accepted, wrongState}
 use Rattle.device.specs.Power.{fresh}
 use Rattle.image.specs.Image.{imageSize, imageOf}
 use Rattle.image.specs.Made.{Made}

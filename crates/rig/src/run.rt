@@ -11,19 +11,19 @@ ghost use Rattle.lists.specs.Run.{allKnown, RanThrough};
 ghost use Rattle.rig.specs.Run.{RunSettled};
 ghost use Rattle.rig.specs.Fresh.{FreshSettled};
 use crate::Ran;
+use accept::is_image;
 use device::State;
-use device::numbers::ACCEPTED;
-use device::numbers::SHORT_ANSWERS;
-use device::numbers::UNKNOWN_EVENT;
-use device::numbers::WRONG_MEMORY;
-use device::numbers::WRONG_STATE;
 use frame::bytes::copy;
 use image::LENGTH;
 use image::MEMORY;
-use image::accept::is_image;
 use image::write::image_of;
 use lists::all_known;
-use rows::row;
+use numbers::ACCEPTED;
+use numbers::SHORT_ANSWERS;
+use numbers::UNKNOWN_EVENT;
+use numbers::WRONG_MEMORY;
+use numbers::WRONG_STATE;
+use stride::stride;
 
 // All events, from an accepted image. The answers go to the front of their buffer.
 pub fn run_events(image: &mut [u8], memory: &mut [u8], events: &[u8], answers: &mut [u8])
@@ -34,7 +34,7 @@ pub fn run_events(image: &mut [u8], memory: &mut [u8], events: &[u8], answers: &
 {
     let mut i = 0;
     while i < events.len() {
-        i = row(image, memory, events, answers, i);
+        i = stride(image, memory, events, answers, i);
     }
 }
 

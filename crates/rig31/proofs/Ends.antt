@@ -11,8 +11,8 @@ use lib.Dec.{leb, eqb}
 use lib.ListN.{length}
 use borrow.Author.Tests.{eqb-true, eqb-false, leb-true, leb-false}
 use Rattle.wire.proofs.Tests.{by-test}
-use Rattle.family.specs.Numbers.{accepted}
-use Rattle.family.specs.Chip.{lone}
+use Rattle.numbers.specs.Numbers.{accepted}
+use Rattle.bus.specs.Select.{lone}
 use Rattle.family.specs.Run.{runOf}
 use Rattle.family.specs.declared.State.{State}
 use Rattle.image31.specs.Image.{decodeOf}

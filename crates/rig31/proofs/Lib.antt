@@ -3,5 +3,4 @@ pub mod Runs
 pub mod Ends
 pub mod Pieces
 pub mod Singles
-pub mod Views
 pub mod Unique

@@ -11,8 +11,10 @@ use lib.Dec.{leb}
 use lib.ListN.{length, drop, length-append}
 use lib.Seq.{drop-append-add, drop-length}
 use Rattle.wire.proofs.Tests.{and-join}
-use Rattle.family.specs.Numbers.{accepted, lastEvent}
-use Rattle.family.specs.Chip.{lone, eventOf}
+use Rattle.numbers.specs.Numbers.{accepted}
+use Rattle.family.specs.Chip.{lastEvent}
+use Rattle.bus.specs.Select.{lone}
+use Rattle.family.specs.Chip.{eventOf}
 use Rattle.family.specs.Limits.{wellFormed}
 use Rattle.family.specs.Step.{stateOf, stepOf}
 use Rattle.family.specs.Run.{following, answerTo, runOf}

@@ -7,8 +7,8 @@ use mathlib.Core.Bool.{true, false}
 use mathlib.Core.List.{List}
 use lib.ListN.{length}
 use borrow.Author.Tests.{le-leb, lt-leb, eq-eqb, ne-eqb}
-use Rattle.family.specs.Numbers.{accepted, wrongMemory, wrongState, unknownEvent, shortAnswers}
-use Rattle.family.specs.Chip.{lone}
+use Rattle.numbers.specs.Numbers.{accepted, wrongMemory, wrongState, unknownEvent, shortAnswers}
+use Rattle.bus.specs.Select.{lone}
 use Rattle.family.specs.Run.{runOf}
 use Rattle.family.specs.declared.State.{State}
 use Rattle.run31.specs.Run.{RanThrough, allKnown}

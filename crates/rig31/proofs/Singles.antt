@@ -7,8 +7,10 @@ use mathlib.Core.List.{List, [], _∷_}
 use native.Mathlib.Omega.{arith}
 use lib.ListN.{length, drop, set}
 use borrow.Author.Tests.{eq-eqb, ne-eqb, le-leb, lt-leb}
-use Rattle.family.specs.Numbers.{wrongMemory, wrongState, unknownEvent, shortAnswers, lastEvent}
-use Rattle.family.specs.Chip.{lone, eventOf}
+use Rattle.numbers.specs.Numbers.{wrongMemory, wrongState, unknownEvent, shortAnswers}
+use Rattle.family.specs.Chip.{lastEvent}
+use Rattle.bus.specs.Select.{lone}
+use Rattle.family.specs.Chip.{eventOf}
 use Rattle.family.specs.declared.State.{State}
 use Rattle.image31.specs.Image.{decodeOf}
 use Rattle.image31.specs.declared.Decoded.the-variants.{Good, Bad}

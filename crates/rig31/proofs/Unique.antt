@@ -5,11 +5,9 @@
 use Prim.Native.Nat.{ℕ}
 use mathlib.Core.Path.{_≡_, sym, _∙_}
 use mathlib.Core.List.{List}
-use denote.Ref.{RefT}
 use Rattle.rig31.specs.Run.{RunSettled}
 use Rattle.rig31.specs.Fresh.{FreshSettled}
 use Rattle.rig31.specs.Single.{SingleSettled}
-use Rattle.rig31.specs.View.{ViewNumberSettled, ViewSettled}
 
 module _ (size : ℕ) where
   -- the list run: number, image, memory and answers
@@ -25,17 +23,6 @@ module _ (size : ℕ) where
       → (n ≡ n₂) × (i′ ≡ i₂) × (m′ ≡ m₂) × (t′ ≡ t₂)
   single-unique i m e t n n₂ i′ i₂ m′ m₂ t′ t₂ p q =
       let e = p ∙ sym q in (λ k. e k .number, λ k. e k .image, λ k. e k .memory, λ k. e k .told)
-
-  -- the viewer: the bytes, and where they lie
-  pub view-unique : (i m : RefT (List ℕ)) (selector start len : ℕ) (r r₂ : RefT (List ℕ))
-      → ViewSettled size i m selector start len r → ViewSettled size i m selector start len r₂
-      → (r .now ≡ r₂ .now) × (r .ptr ≡ r₂ .ptr)
-  view-unique i m selector start len r r₂ p q = (p .bytes ∙ sym (q .bytes), p .place ∙ sym (q .place))
-
-  -- its number
-  pub view-number-unique : (i m : List ℕ) (selector start len n n₂ : ℕ)
-      → ViewNumberSettled size i m selector start len n → ViewNumberSettled size i m selector start len n₂ → n ≡ n₂
-  view-number-unique i m selector start len n n₂ p q = p ∙ sym q
 
 -- the fresh image: number and image
 pub fresh-unique : (i : List ℕ) (n n₂ : ℕ) (i′ i₂ : List ℕ)

@@ -8,7 +8,7 @@ use mathlib.Core.Bool.{cond}
 use mathlib.Core.List.{List}
 use lib.Dec.{eqb}
 use lib.ListN.{length}
-use Rattle.family.specs.Numbers.{accepted, wrongState}
+use Rattle.numbers.specs.Numbers.{accepted, wrongState}
 use Rattle.family.specs.Chip.{fresh}
 use Rattle.image31.specs.Image.{imageSize, imageOf}
 

@@ -2,4 +2,3 @@
 pub mod Run
 pub mod Fresh
 pub mod Single
-pub mod View

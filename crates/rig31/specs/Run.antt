@@ -11,8 +11,8 @@ use mathlib.Core.List.{List}
 use mathlib.Core.Option.{Option, some, none}
 use lib.Dec.{leb, eqb}
 use lib.ListN.{length}
-use Rattle.family.specs.Numbers.{accepted, wrongMemory, unknownEvent, shortAnswers}
-use Rattle.family.specs.Chip.{lone}
+use Rattle.numbers.specs.Numbers.{accepted, wrongMemory, unknownEvent, shortAnswers}
+use Rattle.bus.specs.Select.{lone}
 use Rattle.family.specs.Run.{Ended, runOf}
 use Rattle.family.specs.declared.State.{State}
 use Rattle.run31.specs.Run.{answersOver, allKnown}

@@ -11,8 +11,10 @@ use mathlib.Core.List.{List, _∷_}
 use mathlib.Core.Option.{Option, some, none}
 use lib.Dec.{leb, eqb}
 use lib.ListN.{length, drop}
-use Rattle.family.specs.Numbers.{accepted, wrongMemory, unknownEvent, shortAnswers, lastEvent}
-use Rattle.family.specs.Chip.{lone, Done, eventOf}
+use Rattle.numbers.specs.Numbers.{accepted, wrongMemory, unknownEvent, shortAnswers}
+use Rattle.family.specs.Chip.{lastEvent}
+use Rattle.bus.specs.Select.{lone}
+use Rattle.family.specs.Chip.{Done, eventOf}
 use Rattle.family.specs.Step.{stateOf, answerByte}
 use Rattle.family.specs.declared.State.{State}
 use Rattle.image31.specs.Image.{imageOf, decodeOf}

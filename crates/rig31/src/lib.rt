@@ -1,10 +1,8 @@
 // SPDX-License-Identifier: Apache-2.0
 // What a host program calls for the larger family: a list of events and one event on a state's image and the lent
-// buffers, the fresh image, and the viewer; for each size a function of its own over one that takes the size.
+// buffers, and the fresh image; for each size a function of its own over one that takes the size.
 //
 // run    the list run, and the fresh image
 // step   one event
-// view   a part of the caller's memory or registers, and its number
 pub mod run;
 pub mod step;
-pub mod view;

@@ -4,18 +4,18 @@ ghost use Prim.Native.Nat.{_<_};
 ghost use Rattle.family.specs.Chip.{sizeOf};
 ghost use Rattle.family.specs.declared.Size.the-variants.{Kb64, Kb256};
 ghost use Rattle.rig31.specs.Single.{SingleSettled};
+use bus::select::LONE;
 use family::KB64;
 use family::KB256;
 use family::LAST_EVENT;
-use family::LONE;
-use family::numbers::ACCEPTED;
-use family::numbers::SHORT_ANSWERS;
-use family::numbers::UNKNOWN_EVENT;
-use family::numbers::WRONG_MEMORY;
-use family::numbers::WRONG_STATE;
 use image31::Decoded;
 use image31::image::decode;
 use image31::image::write_image;
+use numbers::ACCEPTED;
+use numbers::SHORT_ANSWERS;
+use numbers::UNKNOWN_EVENT;
+use numbers::WRONG_MEMORY;
+use numbers::WRONG_STATE;
 
 // The bytes that are told of an event: its answer byte.
 pub const TOLD: usize = 1;

@@ -9,8 +9,8 @@ use native.Mathlib.Omega.{arith}
 use lib.Dec.{leb}
 use lib.ListN.{length}
 use borrow.Author.Tests.{le-leb, lt-leb, leb-true, ne-eqb}
-use Rattle.family.specs.Numbers.{accepted, wrongMemory, wrongState, unknownEvent, shortAnswers}
-use Rattle.set31.specs.Numbers.{wrongCount, equalSelects}
+use Rattle.numbers.specs.Numbers.{accepted, wrongMemory, wrongState, unknownEvent, shortAnswers}
+use Rattle.numbers.specs.Numbers.{wrongCount, equalSelects}
 use Rattle.set31.specs.Set.{Together}
 use Rattle.set31.specs.Make.{isLent, isWithin, placesAre, selectsDiffer, countFits, makeNumber}
 use Rattle.set31.specs.Outcome.{lentTo, SetFit}

@@ -11,8 +11,8 @@ use mathlib.Core.Bool.{Bool, cond}
 use mathlib.Core.List.{List}
 use lib.Dec.{eqb, leb}
 use lib.ListN.{length}
-use Rattle.family.specs.Numbers.{accepted, wrongMemory, wrongState, unknownEvent, shortAnswers}
-use Rattle.set31.specs.Numbers.{wrongCount, equalSelects}
+use Rattle.numbers.specs.Numbers.{accepted, wrongMemory, wrongState, unknownEvent, shortAnswers}
+use Rattle.numbers.specs.Numbers.{wrongCount, equalSelects}
 use Rattle.set31.specs.Set.{Together}
 use Rattle.set31.specs.Make.{isLent, placesAre, selectsDiffer, countFits, makeNumber}
 use Rattle.set31.specs.Outcome.{lentTo}

@@ -3,19 +3,22 @@
 ghost use mathlib.Core.Path.{_≡_};
 ghost use Rattle.set31.specs.Outcome.{lentTo};
 ghost use Rattle.rig31set.specs.Entry.{CheckSettled, runNumber, RunSettled};
-use family::numbers::ACCEPTED;
-use family::numbers::SHORT_ANSWERS;
-use family::numbers::UNKNOWN_EVENT;
-use family::numbers::WRONG_MEMORY;
-use family::numbers::WRONG_STATE;
 use image31set::Reading;
 use image31set::read::read_set;
 use image31set::write::write_images;
+use make31set::are_lent;
+use make31set::number;
+use make31set::selects_differ;
+use numbers::ACCEPTED;
+use numbers::EQUAL_SELECTS;
+use numbers::SHORT_ANSWERS;
+use numbers::UNKNOWN_EVENT;
+use numbers::WRONG_COUNT;
+use numbers::WRONG_MEMORY;
+use numbers::WRONG_STATE;
 use run31set::run::all_known;
 use run31set::run::run_events;
 use set31::MOST;
-use set31::numbers::EQUAL_SELECTS;
-use set31::numbers::WRONG_COUNT;
 
 // The number by which a set is refused when it is made, 0 if it is not. Nothing is written.
 #[no_mangle]
@@ -32,13 +35,13 @@ pub extern "C" fn fm31_set_check(
 {
     let read = read_set(plan, images);
     let set = read.set;
-    if !set.are_lent(one, two, three, four) {
+    if !are_lent(set, one, two, three, four) {
         return WRONG_MEMORY as u64;
     }
     if !read.good {
         return WRONG_STATE as u64;
     }
-    set.number(one, two, three, four) as u64
+    number(set, one, two, three, four) as u64
 }
 
 // The number by which a list of events with this room for its answers is refused, 0 if it is not.
@@ -56,7 +59,7 @@ fn run_number(
         (now (events .entry)) room ⌝ }
 {
     let set = read.set;
-    if !set.are_lent(one, two, three, four) {
+    if !are_lent(set, one, two, three, four) {
         return WRONG_MEMORY;
     }
     if !read.good {
@@ -71,7 +74,7 @@ fn run_number(
     if !((1 <= set.count) & (set.count <= MOST)) {
         return WRONG_COUNT;
     }
-    if !set.selects_differ() {
+    if !selects_differ(set) {
         return EQUAL_SELECTS;
     }
     ACCEPTED

@@ -11,7 +11,7 @@ use mathlib.Core.List.{List}
 use lib.ListN.{length, take, replicate}
 use Rattle.bus.specs.declared.Power.the-variants.{On}
 use Rattle.companion.specs.Part.{guardOf}
-use Rattle.device.specs.Numbers.{accepted}
+use Rattle.numbers.specs.Numbers.{accepted}
 use Rattle.device.specs.Chip.{memorySize}
 use Rattle.device.specs.declared.State.{State}
 use Rattle.image.specs.Image.{decodeOf}

@@ -4,13 +4,12 @@
 -- Assumes nothing.
 use Prim.Native.Nat.{ℕ, _+_, _*_, _/_, _%_, _<_}
 use mathlib.Core.Path.{_≡_, refl, sym, ap, _∙_}
-use mathlib.Core.Bool.{Bool, true, false, cond, not, _&&_, false≢true}
+use mathlib.Core.Bool.{Bool, true, cond, _&&_, false≢true}
 use mathlib.Core.List.{List}
 use native.Mathlib.Omega.{arith}
 use lib.Dec.{eqb}
 use lib.ListN.{getD, set}
-use borrow.Author.Tests.{eqb-true, eqb-false, not-true}
-use Rattle.weights.specs.Weight.{has}
+use borrow.Author.Tests.{eqb-true, eqb-false}
 use Rattle.wire.specs.Bits.{pushed, sentBit}
 use Rattle.wire.specs.Clock.{Half}
 use Rattle.wire.specs.Kinds.{slaveByte, highByte, lowByte, memoryByte, memoryRead, pointerByte, companionByte, companionRead}
@@ -20,29 +19,24 @@ use Rattle.wire.specs.declared.Side.the-variants.{Memory, Companion}
 use Rattle.wire.specs.declared.Phase.{Phase}
 use Rattle.wire.specs.declared.Phase.the-variants.{Idle, Slave, AddressHigh, AddressLow, Pointer, Write, Read}
 use Rattle.wire.proofs.Clock.{received-inside, sent-first, sent-within}
-use Rattle.wire.proofs.Tests.{by-test, and-split, and-join}
-use Rattle.bus.specs.Limits.{isIdle, powerWithin}
+use Rattle.wire.proofs.Tests.{by-test}
+use Rattle.bounds.specs.Limits.{isIdle, powerWithin}
 use Rattle.bus.specs.declared.Power.{Power}
 use Rattle.bus.specs.declared.Power.the-variants.{On, Backup, Off}
-use Rattle.calendar.specs.Next.{isValid}
-use Rattle.calendar.proofs.Tests.{true-test, test-true}
-use Rattle.calendar.proofs.Next.{next-valid}
-use Rattle.companion.specs.Map.{OSCEN}
-use Rattle.companion.specs.Part.{tickOf}
 use Rattle.companion.specs.Tick.{countedOf}
 use Rattle.companion.specs.declared.Companion as desk
 use Rattle.device.specs.Answer.{pinShown}
-use Rattle.device.specs.Bus.{withPhase, withCompanion, clockedWith}
+use Rattle.device.specs.Bus.{withPhase, withCompanion}
 use Rattle.device.specs.Chip.{fm3130, Done, doneOf}
 use Rattle.device.specs.Event.{onWire, happening, still, eventOn, eventOf}
 use Rattle.device.specs.Limits.{wellFormed}
-use Rattle.device.specs.Power.{isSupplied}
 use Rattle.device.specs.declared.State.{State}
 use Rattle.device.proofs.Cases.{happening-clock, tick-supplied}
 use Rattle.device.proofs.Entry.{limits-of}
 use Rattle.frame.specs.Layout.{transfer, transferOf, sideOf}
 use Rattle.image.specs.Image.{imageOf}
-use Rattle.inplace.specs.Desk.{isTicking}
+use Rattle.ticking.specs.Tick.{isTicking}
+use Rattle.ticking.proofs.Ticks.{ticking-parts, ticking-tick}
 use Rattle.clocking.specs.Outgoing.{fetchedFrom}
 use Rattle.lists.specs.Run.{answerTo}
 
@@ -240,11 +234,6 @@ module _ (s : State) (m : List ℕ) (e : ℕ) (h : e / 2 ≡ 1) where
       let c = first-clocked s m b (high e) p g f r in
       clock-on o ∙ rw (q, o) (ap doneOf c)
 
-  -- any Clock in a transfer
-  pub clock-event : s .power ≡ On → eventOf s m e ≡ clockedWith s m (s .phase) (eqb e 3)
-  unfolding eventOn lined
-  clock-event o = rw (o, happening-clock e h)
-
   idle-by : (q : Power) → s .power ≡ q → s .phase ≡ Idle
       → eventOn q (happening e) s m ≡ turned s (s .phase) m (high e)
   unfolding eventOn lined clocked
@@ -264,39 +253,14 @@ pub line-answer : (s : State) (p : Phase) (m : List ℕ) (v w : ℕ) (d : Bool) 
     → w ≡ v + cond d 1 0 → w ≡ answerTo (turned s p m d)
 line-answer s p m v w d q r = r ∙ ap (λ (x : ℕ). x + cond d 1 0) q
 
--- ticks that move the core
-pub record Ticking (s : State) : Type 0 where
-  pub supplied : isSupplied (s .power) ≡ true
-  pub runs : has (s .companion .registers .trim) OSCEN ≡ false
-  pub valid : isValid (s .companion .core) ≡ true
-
-pub ticking-facts : (s : State) → isTicking s ≡ true → Ticking s
-unfolding isTicking
-ticking-facts s h =
-    let runs = isSupplied (s .power) && not (has (s .companion .registers .trim) OSCEN) in
-    let f = and-split runs (isValid (s .companion .core)) h in
-    let g = and-split (isSupplied (s .power)) (not (has (s .companion .registers .trim) OSCEN)) (f .0) in
-    record { supplied = g .0; runs = not-true _ (g .1); valid = f .1 }
-
-pub ticking-kept : (s : State) → isTicking s ≡ true → isTicking (withCompanion s (countedOf (s .companion))) ≡ true
-unfolding isTicking
-ticking-kept s h =
-    let runs = isSupplied (s .power) && not (has (s .companion .registers .trim) OSCEN) in
-    let f = and-split runs (isValid (s .companion .core)) h in
-    and-join runs _ (f .0) (test-true _ (next-valid (s .companion .core) (true-test _ (f .1))))
-
-counts : (c : desk.Companion) → has (c .registers .trim) OSCEN ≡ false → tickOf c ≡ countedOf c
-unfolding tickOf
-counts c h = rw h
-
+-- a tick that moves the core
 pub tick-event : (s : State) (m : List ℕ) (e : ℕ) → isTicking s ≡ true → e ≡ 4
     → eventOf s m e ≡ still (withCompanion s (countedOf (s .companion))) m
 unfolding happening
 tick-event s m e h q =
-    let f = ticking-facts s h in
     rw q
-    (tick-supplied s m (f .supplied)
-    ∙ ap (λ (c : desk.Companion). still (withCompanion s c) m) (counts (s .companion) (f .runs)))
+    (tick-supplied s m (ticking-parts s h .0)
+    ∙ ap (λ (c : desk.Companion). still (withCompanion s c) m) (ticking-tick s h))
 
 pub still-answer : (s : State) (m : List ℕ) (v : ℕ) → v ≡ 2 * pinShown (s .power) (s .companion)
     → v + 1 ≡ answerTo (still s m)

@@ -21,9 +21,7 @@ use Rattle.image.specs.Accepting.{isImage}
 use Rattle.image.proofs.Images.{candidate-of}
 use Rattle.image.proofs.Accepts.{image-well, image-written}
 use Rattle.lists.specs.Run.{answerTo, RanThrough}
-use Rattle.rows.specs.Led.{Led, Rowed}
-use Rattle.clocking.specs.Clocking.{Accepted}
-use Rattle.resident.specs.Answering.{Answered}
+use Rattle.rows.specs.Led.{Led}
 use Rattle.lists.proofs.Runs.{run-more, run-done, rest-kept}
 
 -- no event
@@ -84,22 +82,6 @@ module _ (es i m a : List ℕ) (from : ℕ) where
   -- no event of a list
   pub begun : isImage i ≡ true → length m ≡ memorySize → from ≤ length es → Led es (candidate i) m a from (candidate i) m a from
   begun h l n = led-none es (candidate i) m a from n (image-well i h) l
-
-  -- what a part leads to lies in the image
-  pub rowed : (i′ m′ a′ : List ℕ) (to : ℕ) (s′ : State) → i′ ≡ imageOf s′ → from < to
-      → Led es (candidate i) m a from s′ m′ a′ to → Rowed es i m a from i′ m′ a′ to
-  rowed i′ m′ a′ to s′ e n l =
-      record { further = n; image = image-accepted i′ s′ e (l .state); led = rw (lies i′ s′ e) l }
-
-  -- one event
-  pub rowed-one : (i′ m′ : List ℕ) (v : ℕ) → Accepted i m → from < length es → length es ≤ length a
-      → Answered (eventOf (candidate i) m (getD es from 0)) v i′ m′ → Rowed es i m a from i′ m′ (set a from v) (from + 1)
-  rowed-one i′ m′ v c n r d =
-      let s = candidate i in
-      let one = led-more es s m a from s m a from (begun (c .image) (c .memory) (omega arith)) n r
-      (eventOf s m (getD es from 0)) refl v (d .answer) in
-      rowed i′ m′ (set a from v) (from + 1) (eventOf s m (getD es from 0) .state) (d .image) (omega arith)
-      (rw (d .memory) one)
 
 -- the whole list
 pub led-through : (es i m a i′ m′ a′ : List ℕ) (j : ℕ) → length es ≤ j → isImage i′ ≡ true

@@ -21,14 +21,14 @@ use Rattle.frame.specs.Layout.{transferOf, sideOf}
 use Rattle.image.specs.Image.{imageOf, candidate}
 use Rattle.image.specs.Accepting.{isImage}
 use Rattle.image.proofs.Accepts.{image-well, image-written}
-use Rattle.inplace.specs.Desk.{isTicking}
+use Rattle.ticking.specs.Tick.{isTicking}
 use Rattle.clocking.specs.Outgoing.{fetchedFrom}
-use Rattle.clocking.specs.Clocking.{Accepted, Left, clockOn}
-use Rattle.rows.specs.Led.{Led, Rowed, Reached, Clocked, Begun}
-use Rattle.rows.proofs.Ledger.{led-none, led-more, led-on, image-accepted, lies, rowed-one}
+use Rattle.clocking.specs.Clocking.{Accepted}
+use Rattle.rows.specs.Led.{Led, Reached, Begun}
+use Rattle.rows.proofs.Ledger.{led-none, led-more, image-accepted, lies}
 use Rattle.rows.proofs.Inside.{withBits, bits-lie, bits-over, bits-transfer, number-lies, clocks-lie}
 use Rattle.rows.proofs.Inside.{on-while, no-transfer, high, turned, high-answer, line-answer, still-answer}
-use Rattle.rows.proofs.Inside.{incoming-event, outgoing-event, first-event, clock-event, idle-event, tick-event}
+use Rattle.rows.proofs.Inside.{incoming-event, outgoing-event, first-event, idle-event, tick-event}
 
 -- the pin's bits of the answers of a state
 abbrev pub Pin : State → ℕ → Type 0
@@ -65,7 +65,7 @@ module _ (es i a : List ℕ) (from : ℕ) (w : isImage i ≡ true) where
   bits-begun n m h = rw (← bits-lie i (candidate i) (sym (image-written i w))) (idle-begun n m h)
 
   -- some transfer goes on
-  number : getD i 26 0 ≡ transferOf (candidate i .phase) .phase
+  pub number : getD i 26 0 ≡ transferOf (candidate i .phase) .phase
   number = number-lies i (candidate i) (sym (image-written i w))
 
   module _ (a′ : List ℕ) (j : ℕ) (n : j < length es) (r : length es ≤ length a) (v : ℕ) (p : Pin (candidate i) v) where
@@ -141,67 +141,34 @@ pub further : (P : ℕ → Type 0) (es : List ℕ) (i j : ℕ) → i ≤ j → P
 further P es i j h e n =
     by-test (eqb i j) (λ t. absurd (n (rw (← eqb-true i j t) e))) (λ t. let k = eqb-false i j t in omega arith)
 
--- a row of one event at least
-module _ (es i m a : List ℕ) (from : ℕ) (c : Accepted i m) (n : from < length es) where
-  pub row-done : (i′ a′ : List ℕ) (to : ℕ) → Reached es i a from i′ a′ to → from < to → Rowed es i m a from i′ m a′ to
-  row-done i′ a′ to d f = let w = d m (c .memory) in record { further = f; image = w .image; led = w .led }
-
-  -- the rest of a byte that has begun
-  pub row-sent : (i₁ a₁ : List ℕ) (next : ℕ) (i₂ a₂ : List ℕ) (to : ℕ) → getD es from 0 / 2 ≡ 1
-      → Begun es i m a from i₁ a₁ next → Clocked es i₁ a₁ next i₂ a₂ to → Rowed es i m a from i₂ m a₂ to
-  row-sent i₁ a₁ next i₂ a₂ to k b d =
-      let u = b .along .led in
-      let w = d .0 m (c .memory) in
-      let v = w .led in
+-- the first bit of a byte that goes out
+module _ (es i m a : List ℕ) (from : ℕ) (c : Accepted i m) (n : from < length es) (r : length es ≤ length a)
+    (k : getD es from 0 / 2 ≡ 1) where
+  pub row-begun : 6 < getD i 26 0 → getD i 27 0 ≡ 0 → (i′ : List ℕ) (b v x : ℕ)
+      → b ≡ fetchedFrom (sideOf (getD i 26 0)) (candidate i) m → Pin (candidate i) v
+      → x ≡ v + cond (high (getD es from 0) && sentBit 0 b) 1 0 → i′ ≡ set (set i 27 1) 28 b
+      → Begun es i m a from i′ (set a from x) (from + 1)
+  row-begun g z i′ b v x f p y e =
+      let s = candidate i in
+      let q = s .phase in
+      let w = sym (image-written i (c .image)) in
+      let g′ : 6 < transferOf q .phase = rw (number es i a from (c .image)) at g in
+      let on : 0 < transferOf q .phase = omega arith in
+      let b′ : b ≡ fetchedFrom (sideOf (transferOf q .phase)) s m = rw (number es i a from (c .image)) at f in
+      let u = withPhase s (withBits q 1 b) in
+      let own : s .phase ≡ withBits q 0 (getD i 28 0) = rw z at (ap (λ (t : State). t .phase) (bits-lie i s w)) in
+      let d = led-more es s m a from s m a from (idle-begun es i a from (c .image) (omega arith) m (c .memory)) n r
+      (turned s (withBits q 1 b) m (high (getD es from 0) && sentBit 0 b))
+      (first-event s m (getD es from 0) k (on-while s (image-well i (c .image)) on) q (getD i 28 0) g′ own b b′) x
+      (line-answer s (withBits q 1 b) m v x (high (getD es from 0) && sentBit 0 b) p y) in
+      let l : i′ ≡ imageOf u = e ∙ bits-over i s w 1 b on in
+      let t = bits-transfer q 1 b on in
       record {
-        further =
-            by-test (eqb next from)
-            (λ t. let q = eqb-true next from t in
-            let f : next < to = d .1 (rw q n) (rw q k) in omega (arith, q, f))
-            (λ t. let q = eqb-false next from t in omega (arith, u .onward, v .onward));
-        image = w .image;
-        led =
-            led-on es (candidate i) m a from (candidate i₁) m a₁ next (candidate i₂) m a₂ to u v;
+        along = record { image = image-accepted i′ u l (d .state); led = rw (lies i′ u l) d };
+        sends = rw (number-lies i′ u l, t) g′;
+        some = rw (clocks-lie i′ u l, t) (omega arith);
+        few = rw (clocks-lie i′ u l, t) (omega arith);
       }
-
-  module _ (r : length es ≤ length a) (k : getD es from 0 / 2 ≡ 1) where
-    -- any Clock in a transfer
-    pub row-clock : 0 < getD i 26 0 → (i′ m′ : List ℕ) (line : Bool) (v x : ℕ)
-        → Left (clockOn i m (eqb (getD es from 0) 3)) line i′ m′ → Pin (clockOn i m (eqb (getD es from 0) 3) .state) v
-        → x ≡ v + cond line 1 0 → Rowed es i m a from i′ m′ (set a from x) (from + 1)
-    row-clock g i′ m′ line v x l p y =
-        let s = candidate i in
-        let on : 0 < transferOf (s .phase) .phase = rw (number es i a from (c .image)) at g in
-        let q = clock-event s m (getD es from 0) k (on-while s (image-well i (c .image)) on) in
-        rowed-one es i m a from i′ m′ x c n r
-        (rw q (record { answer = y ∙ (λ t. p t + cond (l .line t) 1 0); image = l .image; memory = l .memory }))
-
-    -- the first bit of a byte that goes out
-    pub row-begun : 6 < getD i 26 0 → getD i 27 0 ≡ 0 → (i′ : List ℕ) (b v x : ℕ)
-        → b ≡ fetchedFrom (sideOf (getD i 26 0)) (candidate i) m → Pin (candidate i) v
-        → x ≡ v + cond (high (getD es from 0) && sentBit 0 b) 1 0 → i′ ≡ set (set i 27 1) 28 b
-        → Begun es i m a from i′ (set a from x) (from + 1)
-    row-begun g z i′ b v x f p y e =
-        let s = candidate i in
-        let q = s .phase in
-        let w = sym (image-written i (c .image)) in
-        let g′ : 6 < transferOf q .phase = rw (number es i a from (c .image)) at g in
-        let on : 0 < transferOf q .phase = omega arith in
-        let b′ : b ≡ fetchedFrom (sideOf (transferOf q .phase)) s m = rw (number es i a from (c .image)) at f in
-        let u = withPhase s (withBits q 1 b) in
-        let own : s .phase ≡ withBits q 0 (getD i 28 0) = rw z at (ap (λ (t : State). t .phase) (bits-lie i s w)) in
-        let d = led-more es s m a from s m a from (idle-begun es i a from (c .image) (omega arith) m (c .memory)) n r
-        (turned s (withBits q 1 b) m (high (getD es from 0) && sentBit 0 b))
-        (first-event s m (getD es from 0) k (on-while s (image-well i (c .image)) on) q (getD i 28 0) g′ own b b′) x
-        (line-answer s (withBits q 1 b) m v x (high (getD es from 0) && sentBit 0 b) p y) in
-        let l : i′ ≡ imageOf u = e ∙ bits-over i s w 1 b on in
-        let t = bits-transfer q 1 b on in
-        record {
-          along = record { image = image-accepted i′ u l (d .state); led = rw (lies i′ u l) d };
-          sends = rw (number-lies i′ u l, t) g′;
-          some = rw (clocks-lie i′ u l, t) (omega arith);
-          few = rw (clocks-lie i′ u l, t) (omega arith);
-        }
 
 -- a byte that had begun
 pub begun-still : (es i m a : List ℕ) (from : ℕ) → Accepted i m → from ≤ length es → 6 < getD i 26 0
@@ -213,14 +180,6 @@ begun-still es i m a from c n g z f =
       some = omega (arith, z);
       few = f;
     }
-
--- a tick that moves the core, by the test of it
-both : (t v : Bool) → cond t v false ≡ true → (t ≡ true) × (v ≡ true)
-both true v h = (refl, h)
-both false v h = absurd (false≢true h)
-
-pub moves-facts : (s : State) (e : ℕ) → cond (eqb e 4) (isTicking s) false ≡ true → (e ≡ 4) × (isTicking s ≡ true)
-moves-facts s e h = let f = both (eqb e 4) (isTicking s) h in (eqb-true e 4 (f .0), f .1)
 
 -- what the pin shows, and that it fits beside a line
 pub shown-both : {i : List ℕ} {r : ℕ}

@@ -1,7 +1,6 @@
 -- SPDX-License-Identifier: Apache-2.0
 -- A part of a list of events, from one place to another. All is auxiliary: the entry's contract speaks of the whole list.
 --   Led               what is left, run from the second place, gives what was left at the first
---   Rowed             a row of events, one at least, done on the image and the lent buffers
 --   Along, Reached    a row that touches no memory, of any length; with any memory
 --   Clocked, Ticked   the same of Clocks and of ticks, with their progress
 --   Begun             the first bit of a byte that goes out was sent
@@ -28,13 +27,8 @@ pub record Led (es : List ℕ) (s : State) (m a : List ℕ) (i : ℕ) (s′ : St
   pub run : following (take i′ a′) (runOf s′ m′ (drop i′ es)) ≡ following (take i a) (runOf s m (drop i es))
   pub rest : drop i′ a′ ≡ drop i′ a
 
--- The same of the states that lie in two images; the second is accepted too.
-pub record Rowed (es i m a : List ℕ) (from : ℕ) (i′ m′ a′ : List ℕ) (to : ℕ) : Type 0 where
-  pub further : from < to
-  pub image : isImage i′ ≡ true
-  pub led : Led es (candidate i) m a from (candidate i′) m′ a′ to
-
--- The same where the memory is not touched, and perhaps no event was done.
+-- The same of the states that lie in two images, the second accepted too, where the memory is not touched and perhaps no
+-- event was done.
 pub record Along (es i m a : List ℕ) (from : ℕ) (i′ a′ : List ℕ) (to : ℕ) : Type 0 where
   pub image : isImage i′ ≡ true
   pub led : Led es (candidate i) m a from (candidate i′) m a′ to

@@ -14,8 +14,9 @@ use lib.ListN.{length, take, drop, getD, set, drop-of-length-le, take-append-dro
 use lib.Seq.{take-suc-set, drop-cons, drop-set-lt, drop-drop}
 use borrow.Author.Tests.{leb-true}
 use Rattle.wire.proofs.Tests.{and-split}
-use Rattle.family.specs.Numbers.{lastEvent}
-use Rattle.family.specs.Chip.{lone, eventOf}
+use Rattle.family.specs.Chip.{lastEvent}
+use Rattle.bus.specs.Select.{lone}
+use Rattle.family.specs.Chip.{eventOf}
 use Rattle.family.specs.Step.{stateOf}
 use Rattle.family.specs.Limits.{wellFormed}
 use Rattle.family.specs.Run.{Ended, following, answerTo, runOf}

@@ -9,7 +9,8 @@ use native.Mathlib.Omega.{arith}
 use lib.ListN.{length, take, drop, getD, set, length-set}
 use denote.Laws.{Is}
 use denote.Struct.Laws as LL
-use Rattle.family.specs.Chip.{lone, eventOf, Done}
+use Rattle.bus.specs.Select.{lone}
+use Rattle.family.specs.Chip.{eventOf, Done}
 use Rattle.family.specs.Limits.{wellFormed}
 use Rattle.family.specs.Step.{stateOf}
 use Rattle.family.specs.Run.{following, answerTo, runOf}

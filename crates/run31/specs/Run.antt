@@ -10,8 +10,9 @@ use mathlib.Core.Bool.{Bool, true, _&&_}
 use mathlib.Core.List.{List, [], _∷_, _++_}
 use lib.Dec.{leb}
 use lib.ListN.{length, drop}
-use Rattle.family.specs.Numbers.{lastEvent}
-use Rattle.family.specs.Chip.{lone, Done}
+use Rattle.family.specs.Chip.{lastEvent}
+use Rattle.bus.specs.Select.{lone}
+use Rattle.family.specs.Chip.{Done}
 use Rattle.family.specs.Step.{AnsweredWith}
 use Rattle.family.specs.Run.{Ended, runOf}
 use Rattle.family.specs.declared.State.{State}

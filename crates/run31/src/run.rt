@@ -4,12 +4,12 @@ ghost use mathlib.Core.Path.{_≡_};
 ghost use mathlib.Core.Bool.{true};
 ghost use Prim.Native.Nat.{_≤_, _<_};
 ghost use lib.ListN.{length};
-ghost use Rattle.family.specs.Chip.{lone};
+ghost use Rattle.bus.specs.Select.{lone};
 ghost use Rattle.family.specs.Limits.{wellFormed};
 ghost use Rattle.run31.specs.Run.{allKnown, RanThrough};
 use crate::step::advance_in_place;
+use bus::select::LONE;
 use family::LAST_EVENT;
-use family::LONE;
 use family::State;
 
 // Whether every event byte is one of the ten. All are tested, with no way out of the loop, so that many go at once.

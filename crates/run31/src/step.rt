@@ -1,7 +1,7 @@
 // SPDX-License-Identifier: Apache-2.0
 // One event on a device record that is lent: the step by value, and the record changed in place.
 ghost use Prim.Native.Nat.{_≤_};
-ghost use Rattle.family.specs.Numbers.{lastEvent};
+ghost use Rattle.family.specs.Chip.{lastEvent};
 ghost use Rattle.family.specs.Chip.{eventOf};
 ghost use Rattle.family.specs.Step.{Ready};
 ghost use Rattle.run31.specs.Run.{InPlace};

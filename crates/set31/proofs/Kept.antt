@@ -1,24 +1,19 @@
 -- SPDX-License-Identifier: Apache-2.0
--- Every event keeps each device of a set within its limits, with all its memory; and the ways through the tests of
--- a set that is made.
+-- Every event keeps each device of a set within its limits, with all its memory.
 -- Assumes nothing.
 use Prim.Native.Nat.{ℕ}
 use mathlib.Core.Path.{_≡_}
-use mathlib.Core.Bool.{true, false}
+use mathlib.Core.Bool.{true}
 use lib.Dec.{ltb}
 use lib.ListN.{length}
 use borrow.Author.Tests.{eq-eqb, eqb-true}
 use Rattle.weights.proofs.Cases.{by-cond}
 use Rattle.wire.proofs.Tests.{and-split, and-join}
-use Rattle.family.specs.Numbers.{accepted, wrongMemory, wrongState}
 use Rattle.family.specs.Limits.{wellFormed}
 use Rattle.family.proofs.Entry.{event-ok, size-positive}
-use Rattle.set31.specs.Numbers.{wrongCount, equalSelects, inTransfer}
 use Rattle.set31.specs.Set.{Held, Together, Place, first, second, third, fourth, numberOf, at, sizeIn}
-use Rattle.set31.specs.Set.{selectIn}
-use Rattle.set31.specs.Set.{hears, ownByte, afterOwn, afterAt, afterEvent}
-use Rattle.set31.specs.Make.{isLent, isWithin, isBetween, ifHere, placesAre, selectsDiffer, countFits}
-use Rattle.set31.specs.Make.{makeNumber}
+use Rattle.set31.specs.Set.{selectIn, hears, ownByte, afterOwn, afterAt, afterEvent}
+use Rattle.set31.specs.Make.{isLent, isWithin, ifHere, placesAre}
 use Rattle.set31.specs.Outcome.{Fit, SetFit}
 use Rattle.set31.proofs.Facts.{here-is, of-here, place-has, of-places}
 use Rattle.set31.proofs.Ears.{heard-here}
@@ -61,33 +56,3 @@ module _ (t : Together) (e : ℕ) (f : SetFit t) where
         lent = of-places isLent (afterEvent t e) (λ v. next-at v .lent);
         within = of-places isWithin (afterEvent t e) (λ v. next-at v .within);
       }
-
--- the ways through the tests of a set that is made
-module _ (t : Together) where
-  pub make-wrong-memory : placesAre isLent t ≡ false → makeNumber t ≡ wrongMemory
-  unfolding makeNumber
-  make-wrong-memory a = rw a
-
-  module _ (a : placesAre isLent t ≡ true) where
-    pub make-wrong-state : placesAre isWithin t ≡ false → makeNumber t ≡ wrongState
-    unfolding makeNumber
-    make-wrong-state b = rw (a, b)
-
-    module _ (b : placesAre isWithin t ≡ true) where
-      pub make-wrong-count : countFits t ≡ false → makeNumber t ≡ wrongCount
-      unfolding makeNumber
-      make-wrong-count c = rw (a, b, c)
-
-      module _ (c : countFits t ≡ true) where
-        pub make-equal-selects : selectsDiffer t ≡ false → makeNumber t ≡ equalSelects
-        unfolding makeNumber
-        make-equal-selects d = rw (a, b, c, d)
-
-        module _ (d : selectsDiffer t ≡ true) where
-          pub make-in-transfer : placesAre isBetween t ≡ false → makeNumber t ≡ inTransfer
-          unfolding makeNumber
-          make-in-transfer e = rw (a, b, c, d, e)
-
-          pub make-accepted : placesAre isBetween t ≡ true → makeNumber t ≡ accepted
-          unfolding makeNumber
-          make-accepted e = rw (a, b, c, d, e)

@@ -16,10 +16,11 @@ use Prim.Native.Nat.{ℕ}
 use mathlib.Core.Bool.{Bool, true, cond, _&&_, not}
 use lib.Dec.{eqb, ltb, leb}
 use lib.ListN.{length}
-use Rattle.bus.specs.Limits.{isIdle}
-use Rattle.family.specs.Numbers.{accepted, wrongMemory, wrongState}
+use Rattle.bounds.specs.Limits.{isIdle}
+use Rattle.numbers.specs.Numbers.{accepted, wrongMemory, wrongState}
 use Rattle.family.specs.Limits.{wellFormed}
-use Rattle.set31.specs.Numbers.{wrongCount, equalSelects, inTransfer, most}
+use Rattle.numbers.specs.Numbers.{wrongCount, equalSelects, inTransfer}
+use Rattle.set31.specs.Set.{most}
 use Rattle.set31.specs.Set.{Held, Together, first, second, third, fourth, at, sizeIn, selectIn}
 
 -- All of its memory is lent.

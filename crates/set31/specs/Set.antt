@@ -1,5 +1,6 @@
 -- SPDX-License-Identifier: Apache-2.0
 -- A set of one to four devices of the larger family on one line, and one event on it (02, number 12).
+--   most                           how many devices one line takes
 --   Held, Together, Place, at      a device with its lent memory; a set with its four memories; one of its devices
 --   hears, ownByte                 which events a device hears, and as which of its own ten
 --   afterAt, lineAt                one event on one device of a set
@@ -14,6 +15,10 @@ use Rattle.family.specs.Chip.{sizeOf, Done, eventOf}
 use Rattle.family.specs.Step.{stateOf}
 use Rattle.set31.specs.declared.Member.{Member}
 use Rattle.set31.specs.declared.Set.{Set}
+
+-- "Up to four devices .. share one line."
+abbrev pub most : ℕ
+most = 4
 
 pub record Held : Type 0 where
   pub member : Member

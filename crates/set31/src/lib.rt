@@ -1,17 +1,13 @@
 // SPDX-License-Identifier: Apache-2.0
 // Up to four devices of the larger family on one line.
 //
-// numbers   the refusal numbers of a set
 // hear      one event on one device of a set
 // event     one event on all of a set
-// make      which sets are refused
 use family::Size;
 use family::State;
 
 mod event;
 mod hear;
-pub mod make;
-pub mod numbers;
 
 // The devices that one line takes at most.
 pub const MOST: u8 = 4;

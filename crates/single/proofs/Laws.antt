@@ -19,7 +19,7 @@ use Rattle.companion.proofs.Says.{tick-rolled, nothing-if-silent, nothing-only-
 use Rattle.device.specs.Chip.{memorySize, Done}
 use Rattle.device.specs.Power.{isSupplied}
 use Rattle.device.specs.Event.{happening, rolledBy, rolledIn}
-use Rattle.device.specs.Numbers.{accepted}
+use Rattle.numbers.specs.Numbers.{accepted}
 use Rattle.device.specs.declared.State.{State}
 use Rattle.device.proofs.Cases.{tick-supplied, tick-unsupplied, no-tick}
 use Rattle.image.specs.Image.{decodeOf}

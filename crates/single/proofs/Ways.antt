@@ -8,7 +8,7 @@ use mathlib.Core.List.{List, [], _∷_}
 use native.Mathlib.Omega.{arith}
 use lib.ListN.{length, drop, set}
 use borrow.Author.Tests.{eq-eqb, ne-eqb, le-leb, lt-leb}
-use Rattle.device.specs.Numbers.{wrongMemory, wrongState, unknownEvent, shortAnswers}
+use Rattle.numbers.specs.Numbers.{wrongMemory, wrongState, unknownEvent, shortAnswers}
 use Rattle.device.specs.Chip.{memorySize}
 use Rattle.device.specs.Event.{eventOf, rolledIn}
 use Rattle.device.specs.declared.State.{State}

@@ -15,10 +15,10 @@ use Rattle.weights.specs.Weight.{has}
 use Rattle.calendar.specs.Highest.{changedOf}
 use Rattle.calendar.specs.Next.{isValid}
 use Rattle.calendar.specs.declared.Rolled.the-variants.{Nothing}
-use Rattle.companion.specs.Map.{OSCEN}
+use Rattle.registers.specs.Map.{OSCEN}
 use Rattle.device.specs.Power.{isSupplied}
 use Rattle.device.specs.Event.{eventOf, rolledIn}
-use Rattle.device.specs.Numbers.{accepted}
+use Rattle.numbers.specs.Numbers.{accepted}
 use Rattle.device.specs.declared.State.{State}
 use Rattle.lists.specs.Run.{outcomeOf}
 use Rattle.single.specs.Single.{singleOf}

@@ -13,7 +13,7 @@ use lib.Dec.{leb, eqb}
 use lib.ListN.{length, drop}
 use Rattle.calendar.specs.Highest.{rolledNumber}
 use Rattle.calendar.specs.declared.Rolled.{Rolled}
-use Rattle.device.specs.Numbers.{accepted, wrongMemory, wrongState, unknownEvent, shortAnswers}
+use Rattle.numbers.specs.Numbers.{accepted, wrongMemory, wrongState, unknownEvent, shortAnswers}
 use Rattle.device.specs.Chip.{memorySize, Done}
 use Rattle.device.specs.Event.{eventOf, rolledIn}
 use Rattle.device.specs.Answer.{answerByte}

@@ -5,14 +5,14 @@
 ghost use mathlib.Core.Path.{_≡_};
 ghost use Rattle.calendar.specs.Highest.{rolledNumber};
 ghost use Rattle.single.specs.Single.{SingleSettled};
+use accept::is_image;
 use calendar::Rolled;
-use device::numbers::ACCEPTED;
-use device::numbers::SHORT_ANSWERS;
-use device::numbers::UNKNOWN_EVENT;
-use device::numbers::WRONG_MEMORY;
-use device::numbers::WRONG_STATE;
 use image::MEMORY;
-use image::accept::is_image;
+use numbers::ACCEPTED;
+use numbers::SHORT_ANSWERS;
+use numbers::UNKNOWN_EVENT;
+use numbers::WRONG_MEMORY;
+use numbers::WRONG_STATE;
 use resident::event::tell;
 
 // The bytes that are told of an event: its answer byte, and the number of the field.

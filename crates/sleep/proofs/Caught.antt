@@ -19,10 +19,11 @@ use Rattle.calendar.proofs.Tests.{test-true, true-test}
 use Rattle.calendar.proofs.After.{after-valid}
 use Rattle.days.proofs.Later.{after-invalid, crossings-invalid}
 use Rattle.companion.specs.declared.Companion.{Companion}
-use Rattle.companion.specs.Map.{AF, CF, W, R, OSCEN}
+use Rattle.registers.specs.Map.{AF, CF, W, R, OSCEN}
 use Rattle.companion.specs.Change.{withTime, withRegisters}
-use Rattle.companion.specs.Control.{flagged, followed}
-use Rattle.companion.specs.Tick.{matches, toldOf, countedOf, tickOf}
+use Rattle.registers.specs.Control.{flagged, followed}
+use Rattle.registers.specs.Control.{toldOf}
+use Rattle.companion.specs.Tick.{matches, countedOf, tickOf}
 use Rattle.sleep.specs.Ticks.{ticksOf, rungWithin, caughtOf}
 
 -- 00h with its flags set: the flags are those, the rest is kept

@@ -15,7 +15,7 @@ use Rattle.weights.specs.Weight.{has}
 use Rattle.calendar.specs.Field.{value, bcd}
 use Rattle.calendar.proofs.Field.{value-bcd, bcd-value, bcd-digit}
 use Rattle.sleep.specs.declared.search.Stretch.{Stretch}
-use Rattle.companion.specs.Map.{MATCH}
+use Rattle.registers.specs.Map.{MATCH}
 use Rattle.sleep.specs.Search.{passes, Asks, Some, Narrowed, Skips}
 
 -- no number has digits that are none

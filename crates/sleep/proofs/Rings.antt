@@ -24,7 +24,7 @@ use Rattle.days.proofs.Months.{in-month-unique, month-exists}
 use Rattle.days.proofs.Later.{date-below, weekdayOf, after-at}
 use Rattle.companion.specs.declared.Alarm.{Alarm}
 use Rattle.sleep.specs.declared.search.Stretch.{Stretch}
-use Rattle.companion.specs.Map.{MATCH}
+use Rattle.registers.specs.Map.{MATCH}
 use Rattle.companion.specs.Tick.{matches}
 use Rattle.sleep.specs.Search.{passes, Asks, Some, Tells, DayRings, Narrowed, Skips, Later}
 use Rattle.sleep.specs.Ticks.{rungWithin, TellsRung}

@@ -9,9 +9,9 @@ use lib.ListN.{getD}
 use borrow.Author.Tests.{le-leb, lt-leb}
 use Rattle.days.specs.After.{mostTicks}
 use Rattle.weights.specs.Weight.{has}
-use Rattle.companion.specs.Map.{OSCEN}
+use Rattle.registers.specs.Map.{OSCEN}
 use Rattle.device.specs.Bus.{withCompanion}
-use Rattle.device.specs.Numbers.{accepted, wrongState, tooManyTicks}
+use Rattle.numbers.specs.Numbers.{accepted, wrongState, tooManyTicks}
 use Rattle.device.specs.declared.State.{State}
 use Rattle.image.specs.Image.{imageOf, candidate, decodeOf}
 use Rattle.image.specs.Accepting.{isImage}

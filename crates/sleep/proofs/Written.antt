@@ -16,9 +16,9 @@ use Rattle.calendar.specs.Next.{isValid}
 use Rattle.calendar.specs.declared.Calendar.{Calendar}
 use Rattle.companion.specs.declared.Alarm.{Alarm}
 use Rattle.companion.specs.declared.Companion.{Companion}
-use Rattle.companion.specs.Map.{W, R}
+use Rattle.registers.specs.Map.{W, R}
 use Rattle.companion.specs.Change.{withTime}
-use Rattle.companion.specs.Control.{followed}
+use Rattle.registers.specs.Control.{followed}
 use Rattle.device.specs.Bus.{withCompanion}
 use Rattle.device.specs.Power.{isSupplied}
 use Rattle.device.specs.declared.State.{State}

@@ -15,11 +15,11 @@ use lib.ListN.{replicate, getD}
 use lib.Seq.{sets}
 use Rattle.weights.specs.Weight.{has}
 use Rattle.calendar.specs.declared.Calendar.{Calendar}
-use Rattle.companion.specs.Map.{W, R}
+use Rattle.registers.specs.Map.{W, R}
 use Rattle.companion.specs.declared.Alarm.{Alarm}
 use Rattle.days.specs.After.{mostTicks}
 use Rattle.device.specs.Bus.{withCompanion}
-use Rattle.device.specs.Numbers.{accepted, wrongState, tooManyTicks}
+use Rattle.numbers.specs.Numbers.{accepted, wrongState, tooManyTicks}
 use Rattle.device.specs.declared.State.{State}
 use Rattle.image.specs.Image.{calendarBytes, imageOf, decodeOf}
 use Rattle.image.specs.Made.{Made}

@@ -19,7 +19,7 @@ use Rattle.calendar.specs.Instant.{monthStart}
 use Rattle.days.specs.Places.{InMonth}
 use Rattle.companion.specs.declared.Alarm.{Alarm}
 use Rattle.sleep.specs.declared.search.Stretch.{Stretch}
-use Rattle.companion.specs.Tick.{agrees}
+use Rattle.registers.specs.Alarm.{agrees}
 
 abbrev pub passes : ℕ → ℕ → Bool
 passes alarm x = agrees alarm (bcd x)

@@ -16,9 +16,10 @@ use Rattle.calendar.specs.After.{after}
 use Rattle.calendar.specs.declared.Calendar.{Calendar}
 use Rattle.companion.specs.declared.Alarm.{Alarm}
 use Rattle.companion.specs.declared.Companion.{Companion}
-use Rattle.companion.specs.Control.{followed}
+use Rattle.registers.specs.Control.{followed}
 use Rattle.companion.specs.Change.{withTime}
-use Rattle.companion.specs.Tick.{matches, toldOf, tickOf}
+use Rattle.registers.specs.Control.{toldOf}
+use Rattle.companion.specs.Tick.{matches, tickOf}
 use Rattle.days.specs.Places.{momentOf}
 use Rattle.days.specs.After.{afterOf}
 use Rattle.days.specs.declared.places.Moment.{Moment}

@@ -12,10 +12,10 @@ use crate::ticks::Left;
 use crate::ticks::advanced;
 use calendar::Calendar;
 use companion::Alarm;
-use companion::map::R;
-use companion::map::W;
 use image::read::calendar_at;
 use image::write::write_calendar;
+use registers::map::R;
+use registers::map::W;
 use weights::has;
 
 // Bytes 9 to 13, as an alarm.

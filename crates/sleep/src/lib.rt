@@ -9,11 +9,11 @@
 ghost use mathlib.Core.Path.{_≡_};
 ghost use Rattle.sleep.specs.CatchUp.{CatchUpSettled};
 use crate::bytes::count;
-use companion::map::OSCEN;
-use device::numbers::ACCEPTED;
-use device::numbers::TOO_MANY_TICKS;
-use device::numbers::WRONG_STATE;
-use image::accept::is_image;
+use accept::is_image;
+use numbers::ACCEPTED;
+use numbers::TOO_MANY_TICKS;
+use numbers::WRONG_STATE;
+use registers::map::OSCEN;
 use weights::has;
 
 mod bytes;

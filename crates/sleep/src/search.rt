@@ -11,10 +11,10 @@ ghost use Rattle.days.specs.After.{mostTicks};
 ghost use Rattle.sleep.specs.Search.{passes, Asks, Some, Tells, DayRings, Narrowed, Skips, Later};
 ghost use Rattle.sleep.specs.Ticks.{TellsRung};
 use companion::Alarm;
-use companion::map::MATCH;
 use days::places::Moment;
 use days::places::number;
 use days::starts::month_start;
+use registers::map::MATCH;
 use weights::has;
 
 // Numbers that follow each other, the last not included: seconds, minutes, hours or days of the century.

@@ -9,9 +9,9 @@ ghost use Rattle.sleep.specs.Ticks.{leftOf};
 use crate::search::rings_within;
 use calendar::Calendar;
 use companion::Alarm;
-use companion::tick::told;
 use days::ahead;
 use days::places::standing;
+use registers::control::told;
 
 // What many ticks leave of 00h and of the core.
 pub struct Left {

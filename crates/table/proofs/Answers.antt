@@ -18,11 +18,11 @@ use Rattle.wire.specs.declared.Phase.{Phase}
 use Rattle.wire.proofs.Low.{clocked-low}
 use Rattle.bus.specs.declared.Power.{Power}
 use Rattle.bus.specs.declared.Power.the-variants.{On, Backup, Off}
-use Rattle.companion.specs.Map.{AF, AEN, CAL, ALSW}
-use Rattle.companion.specs.Pin.{functionOf}
+use Rattle.registers.specs.Map.{AF, AEN, CAL, ALSW}
+use Rattle.registers.specs.Pin.{functionOf}
 use Rattle.companion.specs.Part.{pinOf}
 use Rattle.companion.specs.declared.Companion.{Companion}
-use Rattle.companion.proofs.Shown.{function-le}
+use Rattle.registers.proofs.Functions.{function-le}
 use Rattle.device.specs.Chip.{fm3130}
 use Rattle.device.specs.Event.{Happening, onWire, second, lost, gone, returned, happening, eventOn}
 use Rattle.device.specs.declared.State.{State}

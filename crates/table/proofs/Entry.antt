@@ -9,7 +9,7 @@ use mathlib.Core.List.{List, [], _∷_, _++_, append-assoc}
 use native.Mathlib.Omega.{arith}
 use lib.ListN.{length, getD, length-append}
 use Rattle.wire.proofs.Tests.{and-split, and-join}
-use Rattle.device.specs.Numbers.{accepted}
+use Rattle.numbers.specs.Numbers.{accepted}
 use Rattle.device.specs.Event.{eventOf}
 use Rattle.device.specs.Answer.{pinShown}
 use Rattle.device.specs.declared.State.{State}

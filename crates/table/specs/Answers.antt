@@ -12,7 +12,7 @@ use mathlib.Core.List.{List, [], _∷_, map}
 use lib.Dec.{eqb}
 use Rattle.weights.specs.Weight.{has}
 use Rattle.wire.specs.Machine.{start, stop, clock}
-use Rattle.companion.specs.Map.{AF, AEN, CAL, ALSW}
+use Rattle.registers.specs.Map.{AF, AEN, CAL, ALSW}
 use Rattle.device.specs.Power.{isSupplied}
 use Rattle.device.specs.Event.{onWire, second, lost, gone, returned, happening, eventOf}
 use Rattle.device.specs.Answer.{answerByte}

@@ -11,7 +11,7 @@ use lib.ListN.{length, set}
 use Rattle.weights.specs.Weight.{has}
 use Rattle.calendar.specs.Cases.{K1, K2, K3, K4, K5, K6, K7}
 use Rattle.calendar.specs.Cases as Calendars
-use Rattle.companion.specs.Map.{AF, CF}
+use Rattle.registers.specs.Map.{AF, CF}
 use Rattle.device.specs.Chip.{memorySize}
 use Rattle.device.specs.Power.{fresh}
 use Rattle.device.specs.declared.State.{State}

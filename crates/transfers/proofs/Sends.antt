@@ -16,7 +16,8 @@ use Rattle.wire.specs.declared.Phase.the-variants.{Read}
 use Rattle.wire.proofs.Whole.{sends-memory, sends-companion}
 use Rattle.bus.specs.declared.Power.the-variants.{On}
 use Rattle.companion.specs.Registers.{registerAt}
-use Rattle.companion.specs.Part.{nextAddress, controlRead, steppedOf, loadOf, loadedOf}
+use Rattle.registers.specs.Map.{nextAddress}
+use Rattle.companion.specs.Part.{controlRead, steppedOf, loadOf, loadedOf}
 use Rattle.device.specs.Chip.{fm3130, machineOf}
 use Rattle.device.specs.declared.State.{State}
 use Rattle.transfers.specs.Sends.{SentFromMemory, MemorySends, registerNow, SentFromRegisters, RegisterSends}

@@ -8,7 +8,7 @@ use lib.ListN.{getD}
 use borrow.Author.Needs.{needs}
 use borrow.Author.Tests.{eq-eqb, ne-eqb, not-true, not-false}
 use Rattle.weights.specs.Weight.{has}
-use Rattle.companion.specs.Map.{W}
+use Rattle.registers.specs.Map.{W}
 use Rattle.image.specs.Image.{calendarAt}
 use Rattle.line.proofs.loads_bad_date.Statement.{statement}
 use Rattle.line.proofs.loads_bad_date.Tie as tie

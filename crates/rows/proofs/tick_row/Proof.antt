@@ -12,9 +12,9 @@ use Rattle.image.proofs.Accepts.{image-long, image-written}
 use mathlib.Core.Bool.{true}
 use Rattle.image.specs.Image.{imageOf, candidate}
 use Rattle.image.proofs.Images.{image-length}
-use Rattle.inplace.specs.Desk.{isTicking}
+use Rattle.ticking.specs.Tick.{isTicking}
+use Rattle.ticking.proofs.Ticks.{ticking-parts, counted-ticks}
 use Rattle.rows.proofs.Ledger.{lies}
-use Rattle.rows.proofs.Inside.{ticking-facts, ticking-kept}
 use Rattle.rows.proofs.Rowing.{TicksLed, idle-begun, tick-more, ticks-reached, further, shown-both}
 use Rattle.rows.proofs.tick_row.Statement.{statement}
 use Rattle.rows.proofs.tick_row.Tie as tie
@@ -65,7 +65,7 @@ counted-requires c κs = ap length (c .before .before .before .before .loop .inv
 shown-requires : tie.Need-shown-requires Inv-loop μ-loop
 shown-requires c κs =
     let l = c .before .before .before .before .before .before .before .before .loop in
-    let v = c .before .before .before .counted .ensures _ (l .inv .2) (ticking-facts _ (l .inv .3) .valid) in
+    let v = c .before .before .before .counted .ensures _ (l .inv .2) (ticking-parts _ (l .inv .3) .1 .1) in
     ap length (v .1) ∙ image-length _
 
 add-answers : tie.Need-add-answers Inv-loop μ-loop
@@ -73,7 +73,7 @@ add-answers c =
     let at4 = c .before .before .before .before in
     let at9 = at4 .before .before .before .before .before in
     let l = at9 .loop in
-    let v = at4 .counted .ensures _ (l .inv .2) (ticking-facts _ (l .inv .3) .valid) in
+    let v = at4 .counted .ensures _ (l .inv .2) (ticking-parts _ (l .inv .3) .1 .1) in
     let p = shown-both (c .shown .ensures) _ (v .1) in
     omega (arith, p .1)
 
@@ -99,12 +99,12 @@ loop-again c =
     let s = at9 .before .before .before .before in
     let l = at9 .loop in
     let t = at8 .loop-test .taken in
-    let v = at4 .counted .ensures _ (l .inv .2) (ticking-facts _ (l .inv .3) .valid) in
+    let v = at4 .counted .ensures _ (l .inv .2) (ticking-parts _ (l .inv .3) .1 .1) in
     let p = shown-both (c .shown .ensures) _ (v .1) in (
       omega (arith, t),
       omega (arith, l .inv .1),
       v .1 ∙ ap imageOf (sym (lies _ _ (v .1))),
-      rw (lies _ _ (v .1)) (ticking-kept _ (l .inv .3)),
+      rw (lies _ _ (v .1)) (counted-ticks _ (l .inv .3)),
       search needs,
       tick-more _ _ _ _ (s .pre .0 .0) _ _ _ _ _ (l .inv .5) t (s .pre .1 .1) (l .inv .3) (v .1) (at6 .if1 .left) (p .0),
     )

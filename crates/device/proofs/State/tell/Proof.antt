@@ -13,8 +13,8 @@ bus-requires c κs = search needs
 guard-requires : tie.Need-guard-requires
 guard-requires c κs = search needs
 
-asks-requires : tie.Need-asks-requires
-asks-requires c κs = search needs
+deed-of-requires : tie.Need-deed-of-requires
+deed-of-requires c κs = search needs
 
 serve-requires : tie.Need-serve-requires
 serve-requires c κs = search needs
@@ -40,7 +40,7 @@ returns c =
     let v = h .before .before .before in
     let b = v .before .before .before .before in
     let pre = b .before .before .pre in
-    told _ _ _ _ _ _ _ _ _ _ _ (pre .1) (b .bus .ensures) (v .before .before .guard .ensures .0) (v .before .asks .ensures)
+    told _ _ _ _ _ _ _ _ _ _ _ (pre .1) (b .bus .ensures) (v .before .before .guard .ensures .0) (v .before .deed-of .ensures)
     (v .serve .ensures) (h .happen .ensures) (c .before .with .ensures) (c .answer .ensures)
 
 pub tell-spec : {M : Type 1} → statement M
@@ -49,7 +49,7 @@ tell-spec =
     (tie.spec
     bus-requires
     guard-requires
-    asks-requires
+    deed-of-requires
     serve-requires
     happen-requires
     with-requires

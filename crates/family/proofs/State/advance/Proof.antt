@@ -9,8 +9,8 @@ use Rattle.family.proofs.State.advance.Tie as tie
 guard-requires : tie.Need-guard-requires
 guard-requires c κs = search needs
 
-asks-requires : tie.Need-asks-requires
-asks-requires c κs = search needs
+deed-of-requires : tie.Need-deed-of-requires
+deed-of-requires c κs = search needs
 
 serve-requires : tie.Need-serve-requires
 serve-requires c κs = search needs
@@ -30,7 +30,7 @@ returns c =
     let v = h .before .before .before in
     let g = v .before .before in
     let a = g .before .before .before .before .args in
-    advanced (a .size) (a .select) (a .self) _ _ (a .event) _ _ _ _ _ (g .guard .ensures) (v .before .asks .ensures)
+    advanced (a .size) (a .select) (a .self) _ _ (a .event) _ _ _ _ _ (g .guard .ensures) (v .before .deed-of .ensures)
     (v .serve .ensures) (h .happen .ensures) (c .answer-byte .ensures)
 
 pub advance-spec : {M : Type 1} → statement M
@@ -38,7 +38,7 @@ advance-spec =
     tie.close
     (tie.spec
     guard-requires
-    asks-requires
+    deed-of-requires
     serve-requires
     happen-requires
     answer-byte-requires

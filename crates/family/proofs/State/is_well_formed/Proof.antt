@@ -6,15 +6,15 @@ use borrow.Author.Needs.{needs}
 use Rattle.family.proofs.State.is_well_formed.Statement.{statement}
 use Rattle.family.proofs.State.is_well_formed.Tie as tie
 
+bus-within-requires : tie.Need-bus-within-requires
+bus-within-requires c κs = search needs
+
 is-within-requires : tie.Need-is-within-requires
 is-within-requires c κs = search needs
 
-is-within-requires-2 : tie.Need-is-within-requires-2
-is-within-requires-2 c κs = search needs
-
 returns : tie.Need-returns
 unfolding wellFormed
-returns c = rw (c .is-within2 .ensures, c .before .is-within .ensures)
+returns c = rw (c .is-within .ensures, c .before .bus-within .ensures)
 
 pub is-well-formed-spec : {M : Type 1} → statement M
-is-well-formed-spec = tie.close (tie.spec is-within-requires is-within-requires-2 returns)
+is-well-formed-spec = tie.close (tie.spec bus-within-requires is-within-requires returns)

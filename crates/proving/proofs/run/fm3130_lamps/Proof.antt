@@ -10,8 +10,9 @@ use Rattle.image.specs.declared.Decoded.the-variants.{Good}
 use Rattle.lists.specs.Run.{allKnown}
 use Rattle.image.specs.Image.{decodeOf}
 use Rattle.image.proofs.Images.{settled-decode, image-decode, decoded-length}
-use Rattle.proving.specs.Kept.{isKept}
-use Rattle.proving.proofs.Loop.{kept-length, wrong-memory, wrong-image, wrong-kept, unknown-event, short-answers, all-done}
+use Rattle.kept.specs.Kept.{isKept}
+use Rattle.kept.proofs.Bytes.{kept-length}
+use Rattle.proving.proofs.Loop.{wrong-memory, wrong-image, wrong-kept, unknown-event, short-answers, all-done}
 use borrow.Author.Needs.{needs}
 use Rattle.proving.proofs.run.fm3130_lamps.Statement.{statement}
 use Rattle.proving.proofs.run.fm3130_lamps.Tie as tie

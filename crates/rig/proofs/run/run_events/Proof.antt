@@ -28,8 +28,8 @@ loop-holds c =
     let s = c .before .before .before .before in
     (s .pre .0 .image, begun _ _ _ _ _ (s .pre .0 .image) (s .pre .0 .memory) (omega arith))
 
-row-requires : tie.Need-row-requires Inv-loop μ-loop
-row-requires c κs =
+stride-requires : tie.Need-stride-requires Inv-loop μ-loop
+stride-requires c κs =
     let l = c .before .before .before .before .loop in
     let s = c .before .before .before .before .before .before .before .before .before in
     let d = l .inv .1 in (
@@ -39,12 +39,12 @@ row-requires c κs =
 
 loop-less : tie.Need-loop-less Inv-loop μ-loop
 loop-less c =
-    let w = c .before .before .before .before .before .before .row .ensures in
+    let w = c .before .before .before .before .before .before .stride .ensures in
     omega (arith, w .further, w .led .inside)
 
 loop-again : tie.Need-loop-again Inv-loop μ-loop
 loop-again c =
-    let w = c .before .before .before .before .before .before .row .ensures in
+    let w = c .before .before .before .before .before .before .stride .ensures in
     let l = c .before .before .before .before .before .before .before .before .before .before .before .loop in
     (w .image, led-on _ _ _ _ _ _ _ _ _ _ _ _ _ (l .inv .1) (w .led))
 
@@ -71,7 +71,7 @@ run-events-spec =
     Inv-loop
     μ-loop
     loop-holds
-    row-requires
+    stride-requires
     loop-less
     loop-again
     same-length

@@ -7,7 +7,7 @@ use denote.Ref.{now}
 use lib.ListN.{length}
 use borrow.Author.Needs.{needs}
 use borrow.Author.Tests.{not-true, not-false}
-use Rattle.family.specs.Chip.{lone}
+use Rattle.bus.specs.Select.{lone}
 use Rattle.image31.specs.declared.Decoded.the-variants.{Good}
 use Rattle.run31.specs.Run.{allKnown}
 use Rattle.image31.specs.Image.{decodeOf}

@@ -6,7 +6,7 @@ use denote.Ref.{now}
 use lib.ListN.{length}
 use borrow.Author.Needs.{needs}
 use Rattle.family.proofs.Entry.{ready}
-use Rattle.family.specs.Chip.{lone}
+use Rattle.bus.specs.Select.{lone}
 use Rattle.image31.specs.declared.Decoded.the-variants.{Good}
 use Rattle.image31.specs.Image.{decodeOf}
 use Rattle.image31.proofs.Images.{settled-decode, image-decode, decoded-length}

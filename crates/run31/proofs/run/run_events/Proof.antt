@@ -62,8 +62,9 @@ use denote.Triple.Walked.{says, Stays, stay-none, stay-none-slice, stay-slice, w
 use denote.Triple.Walked.{goes-slice, Walks, ends-at, walked, walk-meets}
 use denote.Exit.{yes}
 use denote.Signature.{plain}
-use Rattle.family.specs.Numbers.{lastEvent}
-use Rattle.family.specs.Chip.{lone, eventOf}
+use Rattle.family.specs.Chip.{lastEvent}
+use Rattle.bus.specs.Select.{lone}
+use Rattle.family.specs.Chip.{eventOf}
 use Rattle.family.specs.Limits.{wellFormed}
 use Rattle.family.specs.declared.State.{State}
 use Rattle.family.proofs.Entry.{ready}

@@ -49,7 +49,7 @@ use denote.Triple.Walked.{says, Stays, stay-ref, stay-none, gave-slice, walkOf, 
 use denote.Triple.Walked.{goes-gave-slice, Walks, ends-at, walked, walk-meets}
 use denote.Exit.{yes}
 use denote.Signature.{plain}
-use Rattle.family.specs.Numbers.{lastEvent}
+use Rattle.family.specs.Chip.{lastEvent}
 use Rattle.family.specs.Chip.{eventOf}
 use Rattle.family.specs.Step.{Ready, AnsweredWith}
 use Rattle.family.specs.declared.State.{State}
