@@ -159,12 +159,13 @@ else
 	@echo "counts: docs/SPEED.md stores those of x86-64; this machine is $(MACHINE)"
 endif
 
-fuzz: lib ## chosen bytes at the archive's C boundary, four targets for SECONDS=200 each
+fuzz: lib ## chosen bytes at the archive's C boundary, five targets for SECONDS=200 each
 	@tools/setup.sh fuzz
 	@tools/fuzz.sh $(SECONDS) entries
 	@tools/fuzz.sh $(SECONDS) captures
 	@tools/fuzz.sh $(SECONDS) family
 	@tools/fuzz.sh $(SECONDS) sets
+	@tools/fuzz.sh $(SECONDS) beside
 
 fmt: ## format all Rattle and Rust files
 	@rt fmt

@@ -136,7 +136,7 @@ uint8_t choose_register_byte(const struct limits *limits, struct choices *choice
 
 /* One choice of bus traffic: a single event, a byte on the bus, a Start with one of the four slave bytes, or a
  * companion write up to its address byte. */
-static void add_traffic(const struct part *part, struct choices *choices, struct list *list)
+void add_bus_traffic(const struct part *part, struct choices *choices, struct list *list)
 {
     static const uint8_t slave_bytes[4] = {0xA0, 0xA1, 0xD0, 0xD1};
     uint8_t kind = choose_byte(choices);
@@ -158,7 +158,7 @@ static void choose_events(const struct part *part, struct choices *choices, stru
     list->length = 0;
     while (choices->left > 0 && list->length < MOST_EVENTS) {
         if (way % 8 < 5)
-            add_traffic(part, choices, list);
+            part->add_traffic(part, choices, list);
         else if (way % 8 < 7)
             add_event(list, choose_byte(choices) % (part->limits->highest_event + 1));
         else

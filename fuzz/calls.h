@@ -14,8 +14,8 @@ enum { MOST_ANSWERS = MOST_EVENTS + 64, MOST_IMAGE = 256, MOST_MEMORY = 65536 };
 enum { OLD_BYTE = 0xEE, BESIDE = 8 };
 
 /* A part: its limits, bytes that lie beside them, its proved entries, and the plain program that says what they must
- * do. `liven` writes what seldom comes by chance over the front of an image; `hold_told` holds what one event tells
- * beside its answer. */
+ * do. `liven` writes what seldom comes by chance over the front of an image; `add_traffic` adds one choice of bus
+ * traffic to a list, mostly `add_bus_traffic`; `hold_told` holds what one event tells beside its answer. */
 struct part {
     const struct limits *limits;
     const uint8_t *beside;
@@ -28,6 +28,7 @@ struct part {
                             uint64_t selector, uint64_t start, uint64_t length);
     void (*plain)(uint8_t *image, uint8_t *memory, const uint8_t *events, size_t count, uint8_t *answers);
     void (*liven)(struct choices *choices, uint8_t *image);
+    void (*add_traffic)(const struct part *part, struct choices *choices, struct list *list);
     void (*hold_told)(const uint8_t *old_image, const uint8_t *new_image, uint64_t event, const uint8_t *told);
 };
 
@@ -54,6 +55,9 @@ void lay_fences(void);
 
 /* The call that the input chooses; all that is left of the input becomes events. */
 struct call choose_call(const struct part *part, struct choices *choices);
+
+/* One choice of the traffic that every part hears. */
+void add_bus_traffic(const struct part *part, struct choices *choices, struct list *list);
 
 /* Pieces of such a choice, for a call on several devices. */
 size_t answers_length(uint8_t choice, uint8_t way, size_t events);

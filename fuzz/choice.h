@@ -49,4 +49,13 @@ static inline uint64_t choose_number(struct choices *choices)
     }
 }
 
+/* A number below a limit, one of the two beside it, or one below it and a power of 16, which is lost where a number is
+ * cut. */
+static inline uint64_t choose_near(struct choices *choices, unsigned limit)
+{
+    uint8_t way = choose_byte(choices);
+    uint64_t number = choose_byte(choices) % (way & 1 ? limit + 2 : limit);
+    return way % 16 == 14 ? number + ((uint64_t)1 << way / 16 * 4) : number;
+}
+
 #endif

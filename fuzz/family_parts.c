@@ -60,6 +60,8 @@ static void hold_told(const uint8_t *old_image, const uint8_t *new_image, uint64
 static const uint8_t beside[BESIDE] = {0x08, 0x09, 0x0C, 0x10, 0x11, 0x18, 0x19, 0xFF};
 
 const struct part family_parts[2] = {
-    {&fm3164_limits, beside, fm31_fresh, run_64, fm3164_step, fm3164_view_number, plain_64, liven, hold_told},
-    {&fm31256_limits, beside, fm31_fresh, run_256, fm31256_step, fm31256_view_number, plain_256, liven, hold_told},
+    {&fm3164_limits, beside, fm31_fresh, run_64, fm3164_step, fm3164_view_number, plain_64, liven, add_bus_traffic,
+     hold_told},
+    {&fm31256_limits, beside, fm31_fresh, run_256, fm31256_step, fm31256_view_number, plain_256, liven, add_bus_traffic,
+     hold_told},
 };
