@@ -6,12 +6,23 @@
 //   0000h        a report: the image in hex, and the sum of the memory
 //   any other    so many event bytes follow: they are run, and the number, the count and the sum of the answers are written
 //
+// Each frame of events is done twice: by the list run, which changes the image where it lies, and then one by one, on copies, by
+// the entry for a state by value. Where the two differ a line says so, which no expected output has.
+//
 // It ends with its input, or at a frame that is cut short.
 ghost use Prim.Native.Nat.{_≤_};
+ghost use lib.ListN.{length};
+use accept::decode;
+use device::State;
+use frame::bytes::copy;
+use frame::bytes::same;
+use image::Decoded;
 use image::LENGTH;
 use image::MEMORY;
+use image::write::image_of;
 use libc::STDIN_FILENO;
 use libc::STDOUT_FILENO;
+use numbers::ACCEPTED;
 use rig::run::fm3130_fresh;
 use rig::run::fm3130_run;
 
@@ -86,14 +97,87 @@ fn read_events(events: &mut [u8], length: usize) -> bool {
     length <= io::read_full(STDIN_FILENO, &mut events[..length])
 }
 
+// What one event by value leaves, and whether it was answered as the list run answered it.
+struct Step {
+    state: State,
+    alike: bool,
+}
+
+fn step_event(state: State, memory: &mut [u8], event: u8, answer: u8) -> Step {
+    let stepped = state.step(memory, event);
+    let next = stepped.state;
+    let alike = (stepped.number == ACCEPTED) & (stepped.answer == answer);
+    Step {
+        state: next,
+        alike: alike,
+    }
+}
+
+// Does events one by one on a state by value.
+fn step_events(first: State, memory: &mut [u8], events: &[u8], answers: &[u8]) -> Step
+    requires { ⌜ length (now events) ≤ length (now answers) ⌝ }
+{
+    let mut state = first;
+    let mut alike = true;
+    let mut i = 0;
+    while i < events.len() {
+        let event = events[i];
+        let answer = answers[i];
+        i += 1;
+        let step = step_event(state, memory, event, answer);
+        let next = step.state;
+        state = next;
+        alike = alike & step.alike;
+    }
+    Step {
+        state: state,
+        alike: alike,
+    }
+}
+
+// Whether the events, done one by one by value on the image and the memory before them, are answered as the answers have it
+// and leave the image and the memory after them.
+fn by_value_too(
+    before: &[u8],
+    memory_before: &mut [u8],
+    events: &[u8],
+    answers: &[u8],
+    image: &[u8],
+    memory: &[u8],
+) -> bool {
+    if answers.len() < events.len() {
+        return false;
+    }
+    let Decoded::Good(first) = decode(before) else {
+        return false;
+    };
+    let last = step_events(first, memory_before, events, answers);
+    let state = last.state;
+    let after = image_of(state);
+    last.alike & same(&after, image) & same(memory_before, memory)
+}
+
 // Runs events and writes a line: the number, the count, and the sum of the answers.
 fn run_events(image: &mut [u8], memory: &mut [u8], events: &[u8], answers: &mut [u8]) {
+    if image.len() != LENGTH {
+        return;
+    }
+    if memory.len() != MEMORY {
+        return;
+    }
+    let mut before = [0u8; LENGTH];
+    let mut memory_before = [0u8; MEMORY];
+    copy(image, &mut before);
+    copy(memory, &mut memory_before);
     let ran = fm3130_run(image, memory, events, answers);
     io::print_decimal(STDOUT_FILENO, ran.number);
     print(b" ");
     io::print_decimal(STDOUT_FILENO, ran.count);
     print(b" ");
     print_sum(answers);
+    if !by_value_too(&before, &mut memory_before, events, answers, image, memory) {
+        print(b"by value it differs\n");
+    }
 }
 
 // A frame of events; false where the input ends before its end.
