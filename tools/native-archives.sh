@@ -25,9 +25,8 @@ set -- $stale
 below=$(for crate in "$@"; do tools/crates-below.sh "$crate" | sed 1d; done | LC_ALL=C sort -u)
 if [ -n "$below" ]; then
     began=$(date +%s)
-    mkdir -p build/log
     # shellcheck disable=SC2086
-    rt check $below >build/log/below.txt 2>&1 || {
+    tools/proving.sh build/log/below.txt rt check $below || {
         cat build/log/below.txt >&2
         fail "rt check FAILED (what was said stands above and in build/log/below.txt)"
     }
@@ -36,4 +35,11 @@ fi
 
 jobs=${RT_JOBS:-$(nproc)}
 [ -n "${RT_JOBS:-}" ] || [ "$jobs" -le 4 ] || jobs=4
-printf '%s\n' "$@" | xargs -n 1 -P "$jobs" tools/native-archive.sh || fail "an archive was not made"
+printf '%s\n' "$@" | xargs -n 1 -P "$jobs" tools/native-archive.sh &
+making=$!
+began=$(date +%s)
+while sleep 1 && kill -0 "$making" 2>/dev/null; do
+    seconds=$(($(date +%s) - began))
+    [ $((seconds % 10)) -ne 0 ] || echo "  .. archives are being made ($seconds s)"
+done
+wait "$making" || fail "an archive was not made"
