@@ -3,6 +3,10 @@
 //! 64 bytes of docs/FAMILY.md.
 
 use crate::image::{bus_bytes, phase_within, IMAGE_BYTES};
+pub use fm3130_sys::fm31_fresh as fresh;
+use fm3130_sys::{
+    fm31256_run, fm31256_step, fm31256_view_number, fm3164_run, fm3164_step, fm3164_view_number,
+};
 use second::family::{Device, Size, State};
 use second::generate::FamilyList;
 
@@ -14,74 +18,6 @@ const FREE_BITS: [u8; 16] = [
     0xEF, 0x9F, 0x9F, 0x0F, 0xFF, 0xFF, 0xFF, 0xFF, 0xFF, 0xFF, 0xFF, 0xFF, 0xFF, 0xFF, 0xFF, 0xFF,
 ];
 
-mod foreign {
-    unsafe extern "C" {
-        pub fn fm31_fresh(image: *mut u8, image_length: u64) -> u64;
-        pub fn fm3164_run(
-            image: *mut u8,
-            image_length: u64,
-            memory: *mut u8,
-            memory_length: u64,
-            events: *const u8,
-            events_length: u64,
-            answers: *mut u8,
-            answers_length: u64,
-        ) -> u64;
-        pub fn fm31256_run(
-            image: *mut u8,
-            image_length: u64,
-            memory: *mut u8,
-            memory_length: u64,
-            events: *const u8,
-            events_length: u64,
-            answers: *mut u8,
-            answers_length: u64,
-        ) -> u64;
-        pub fn fm3164_step(
-            image: *mut u8,
-            image_length: u64,
-            memory: *mut u8,
-            memory_length: u64,
-            event: u64,
-            told: *mut u8,
-            told_length: u64,
-        ) -> u64;
-        pub fn fm31256_step(
-            image: *mut u8,
-            image_length: u64,
-            memory: *mut u8,
-            memory_length: u64,
-            event: u64,
-            told: *mut u8,
-            told_length: u64,
-        ) -> u64;
-        pub fn fm3164_view_number(
-            image: *const u8,
-            image_length: u64,
-            memory: *const u8,
-            memory_length: u64,
-            selector: u64,
-            start: u64,
-            length: u64,
-        ) -> u64;
-        pub fn fm31256_view_number(
-            image: *const u8,
-            image_length: u64,
-            memory: *const u8,
-            memory_length: u64,
-            selector: u64,
-            start: u64,
-            length: u64,
-        ) -> u64;
-    }
-}
-
-/// Writes the fresh image; the number.
-pub fn fresh(image: &mut [u8]) -> u64 {
-    // SAFETY: a slice of Rust's is non-null, and its length is its own.
-    unsafe { foreign::fm31_fresh(image.as_mut_ptr(), image.len() as u64) }
-}
-
 /// The list run of a size; the number.
 pub fn run(
     size: Size,
@@ -90,42 +26,17 @@ pub fn run(
     events: &[u8],
     answers: &mut [u8],
 ) -> u64 {
-    let entry = match size {
-        Size::Kilobits64 => foreign::fm3164_run,
-        Size::Kilobits256 => foreign::fm31256_run,
-    };
-    // SAFETY: four slices of Rust's are non-null and do not overlap, and their lengths are their own.
-    unsafe {
-        entry(
-            image.as_mut_ptr(),
-            image.len() as u64,
-            memory.as_mut_ptr(),
-            memory.len() as u64,
-            events.as_ptr(),
-            events.len() as u64,
-            answers.as_mut_ptr(),
-            answers.len() as u64,
-        )
+    match size {
+        Size::Kilobits64 => fm3164_run(image, memory, events, answers),
+        Size::Kilobits256 => fm31256_run(image, memory, events, answers),
     }
 }
 
 /// One event of a size; the number.
 pub fn step(size: Size, image: &mut [u8], memory: &mut [u8], event: u64, told: &mut [u8]) -> u64 {
-    let entry = match size {
-        Size::Kilobits64 => foreign::fm3164_step,
-        Size::Kilobits256 => foreign::fm31256_step,
-    };
-    // SAFETY: three slices of Rust's are non-null and do not overlap, and their lengths are their own.
-    unsafe {
-        entry(
-            image.as_mut_ptr(),
-            image.len() as u64,
-            memory.as_mut_ptr(),
-            memory.len() as u64,
-            event,
-            told.as_mut_ptr(),
-            told.len() as u64,
-        )
+    match size {
+        Size::Kilobits64 => fm3164_step(image, memory, event, told),
+        Size::Kilobits256 => fm31256_step(image, memory, event, told),
     }
 }
 
@@ -138,21 +49,9 @@ pub fn view_number(
     start: u64,
     length: u64,
 ) -> u64 {
-    let entry = match size {
-        Size::Kilobits64 => foreign::fm3164_view_number,
-        Size::Kilobits256 => foreign::fm31256_view_number,
-    };
-    // SAFETY: both slices are non-null and only read, and their lengths are their own.
-    unsafe {
-        entry(
-            image.as_ptr(),
-            image.len() as u64,
-            memory.as_ptr(),
-            memory.len() as u64,
-            selector,
-            start,
-            length,
-        )
+    match size {
+        Size::Kilobits64 => fm3164_view_number(image, memory, selector, start, length),
+        Size::Kilobits256 => fm31256_view_number(image, memory, selector, start, length),
     }
 }
 

@@ -3,45 +3,9 @@
 
 use crate::family::{first_difference, image_of};
 use crate::image::IMAGE_BYTES;
+use fm3130_sys::{fm31_set_check, fm31_set_run};
 use second::family::{Member, Set, Size, State};
 use second::generate::SetList;
-
-mod foreign {
-    unsafe extern "C" {
-        pub fn fm31_set_check(
-            plan: *const u8,
-            plan_length: u64,
-            images: *const u8,
-            images_length: u64,
-            one: *const u8,
-            one_length: u64,
-            two: *const u8,
-            two_length: u64,
-            three: *const u8,
-            three_length: u64,
-            four: *const u8,
-            four_length: u64,
-        ) -> u64;
-        pub fn fm31_set_run(
-            plan: *const u8,
-            plan_length: u64,
-            images: *mut u8,
-            images_length: u64,
-            one: *mut u8,
-            one_length: u64,
-            two: *mut u8,
-            two_length: u64,
-            three: *mut u8,
-            three_length: u64,
-            four: *mut u8,
-            four_length: u64,
-            events: *const u8,
-            events_length: u64,
-            answers: *mut u8,
-            answers_length: u64,
-        ) -> u64;
-    }
-}
 
 /// The buffers of a set, as C has them: the plan, the images one after the other, and four memories.
 #[derive(Clone, Debug, PartialEq, Eq)]
@@ -95,49 +59,14 @@ fn images_of(states: impl Iterator<Item = State>) -> Vec<u8> {
 /// Whether a set can be made; the number.
 pub fn check(buffers: &Buffers) -> u64 {
     let [one, two, three, four] = &buffers.memories;
-    // SAFETY: six slices of Rust's are non-null and only read, and their lengths are their own.
-    unsafe {
-        foreign::fm31_set_check(
-            buffers.plan.as_ptr(),
-            buffers.plan.len() as u64,
-            buffers.images.as_ptr(),
-            buffers.images.len() as u64,
-            one.as_ptr(),
-            one.len() as u64,
-            two.as_ptr(),
-            two.len() as u64,
-            three.as_ptr(),
-            three.len() as u64,
-            four.as_ptr(),
-            four.len() as u64,
-        )
-    }
+    fm31_set_check(&buffers.plan, &buffers.images, one, two, three, four)
 }
 
 /// A list of events on a set; the number.
 pub fn run(buffers: &mut Buffers, events: &[u8], answers: &mut [u8]) -> u64 {
     let [one, two, three, four] = &mut buffers.memories;
-    // SAFETY: eight slices of Rust's are non-null and do not overlap, and their lengths are their own.
-    unsafe {
-        foreign::fm31_set_run(
-            buffers.plan.as_ptr(),
-            buffers.plan.len() as u64,
-            buffers.images.as_mut_ptr(),
-            buffers.images.len() as u64,
-            one.as_mut_ptr(),
-            one.len() as u64,
-            two.as_mut_ptr(),
-            two.len() as u64,
-            three.as_mut_ptr(),
-            three.len() as u64,
-            four.as_mut_ptr(),
-            four.len() as u64,
-            events.as_ptr(),
-            events.len() as u64,
-            answers.as_mut_ptr(),
-            answers.len() as u64,
-        )
-    }
+    let (plan, images) = (&buffers.plan, &mut buffers.images);
+    fm31_set_run(plan, images, one, two, three, four, events, answers)
 }
 
 /// Our number for one of the second program's: 02 gives none for the two refusals of a set, and each program chose its own.

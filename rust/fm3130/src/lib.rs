@@ -46,11 +46,9 @@
 //! ```
 
 #![deny(missing_docs)]
-#![deny(unsafe_code)]
+#![forbid(unsafe_code)]
 
 mod answer;
-// The only module that may use `unsafe`: it crosses the C interface of the archive.
-#[allow(unsafe_code)]
 mod archive;
 mod calendar;
 pub mod capture;
