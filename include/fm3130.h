@@ -486,7 +486,8 @@ static inline const uint8_t *fm3130_view(const uint8_t *image, const uint8_t *me
 /* What fm3130_mend lists of a register: its number, the old byte, the new byte. */
 #define FM3130_CHANGE_BYTES 3
 
-/* Room for every list of fm3130_mend: all seven registers 02h to 08h. */
+/* Room for every list of fm3130_mend: all seven registers 02h to 08h. Proved: AlwaysEnough, and
+ * AllNeeded, that fewer are not always, crates/mend/specs/Laws.antt. */
 #define FM3130_CHANGES_ROOM (7 * FM3130_CHANGE_BYTES)
 
 /* What fm3130_mend returns. */

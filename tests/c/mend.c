@@ -154,8 +154,9 @@ static void check_mend_refused(const char *what, uint64_t number, uint64_t image
 }
 
 static void check_mend_refusals(void) {
-    begin(dates[3], dates[3]);
+    begin(dates[3], dates[3]); /* all seven registers are to be changed */
     uint64_t count = expect();
+    check_equal("mend: room for every list", 3 * count, FM3130_CHANGES_ROOM);
     check_mend_refused("mend: 2 before 4", FM3130_WRONG_STATE, 63, 0);
     check_mend_refused("mend: 2 of no bytes", FM3130_WRONG_STATE, 0, sizeof changes);
     for (uint64_t room = 0; room < 3 * count; room++) {

@@ -3,3 +3,4 @@
 pub mod Listing
 pub mod Ways
 pub mod Laws
+pub mod Room

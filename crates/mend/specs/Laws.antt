@@ -6,10 +6,12 @@
 --   OutputValid                       "the output is always valid"
 --   ListsWhatChanged                  the list and the count are those of all fifteen registers, before and after
 --   ThreeBytesEach                    the list has three bytes for each register that it counts
+--   AlwaysEnough, NoMoreWritten       room for every list: so many bytes are always enough, and none past them is written
+--   AllNeeded                         and not one byte fewer is
 --   ValidGivesNone, ValidStays        "Valid registers give an empty list"; a valid image stays
 --   TwiceIsOnce                       "running it twice changes nothing more"
 -- Assumes nothing.
-use Prim.Native.Nat.{ℕ, _*_}
+use Prim.Native.Nat.{ℕ, _*_, _≤_, _<_}
 use mathlib.Core.Path.{_≡_}
 use mathlib.Core.List.{List}
 use lib.Dec.{T}
@@ -17,12 +19,14 @@ use lib.ListN.{length, take, drop}
 use Rattle.calendar.specs.Next.{isValid}
 use Rattle.calendar.specs.Mend.{mendedOf}
 use Rattle.calendar.specs.declared.Calendar.{Calendar}
-use Rattle.numbers.specs.Numbers.{accepted}
+use Rattle.companion.specs.Change.{withTime, withRegisters}
+use Rattle.numbers.specs.Numbers.{accepted, shortAnswers}
+use Rattle.device.specs.Power.{fresh, poweredWith}
 use Rattle.device.specs.declared.State.{State}
 use Rattle.image.specs.Image.{calendarAt, imageOf}
 use Rattle.image.specs.Reading.{WrittenBy}
 use Rattle.mend.specs.Changes.{changesFrom, changedCount}
-use Rattle.mend.specs.Mend.{mendedState, mendOf}
+use Rattle.mend.specs.Mend.{mendedState, refused, mendOf}
 
 -- The calendar that the registers of an image hold, and its core.
 abbrev pub registersIn : List ℕ → Calendar
@@ -65,6 +69,31 @@ ListsWhatChanged =
 
 abbrev pub ThreeBytesEach : Type 0
 ThreeBytesEach = (n : ℕ) (xs ys : List ℕ) → length (changesFrom n xs ys) ≡ 3 * changedCount xs ys
+
+-- Room for every list: seven registers, three bytes each.
+abbrev pub room : ℕ
+room = 21
+
+-- With so many bytes lent no image, accepted or not, is refused for want of room.
+abbrev pub AlwaysEnough : Type 0
+AlwaysEnough = (i ch : List ℕ) → room ≤ length ch → mendOf i ch .number ≡ shortAnswers → ⊥
+
+-- Whatever is lent.
+abbrev pub NoMoreWritten : Type 0
+NoMoreWritten = (i ch : List ℕ) → drop room (mendOf i ch .changes) ≡ drop room ch
+
+-- A state whose calendar registers are all out of range on their own.
+abbrev pub impossible : State
+impossible =
+    poweredWith fresh
+    (withRegisters (fresh .companion)
+    (withTime (fresh .companion .registers) 0
+    (record { seconds = 0x7F; minutes = 0x7F; hours = 0x3F; day = 0; date = 0; month = 0; year = 0xFF })))
+
+-- Its image is refused for want of room with any fewer.
+abbrev pub AllNeeded : Type 0
+AllNeeded =
+    (ch : List ℕ) → length ch < room → mendOf (imageOf impossible) ch ≡ refused shortAnswers (imageOf impossible) ch
 
 -- Of every image that 01 accepts; no byte need be lent then, and the core is put right where it is invalid.
 abbrev pub ValidGivesNone : Type 0
