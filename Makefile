@@ -102,6 +102,8 @@ ctest: lib host ## the archives through the C headers (the official one too), th
 	@build/ctest/native $(FRAMES)
 	@tools/run-x86-64.sh build/ctest/official $(FRAMES)
 	@build/ctest/plusplus
+	@tests/c/alone.sh build/ctest/alone build/native/libfm3130.a $(CC)
+	@tests/c/alone.sh build/ctest/alone build/official/libfm3130.a $(CC_X86_64)
 	@tests/c/host.sh $(HOST) build/ctest/host
 	@tests/c/guide.sh build/ctest/guide $(CC) $(C99)
 	@$(FM3130) events $(SESSION) -o build/ctest/session.events

@@ -35,9 +35,10 @@
  *              events, sizeof events, answers, sizeof answers);
  *   // image[FM31_PLACE(FM31_COUNTER_1_LOW)] is 2
  *
- * Link with libfm3130.a, which holds these functions too and needs no other library; its version is
- * FM3130_VERSION in fm3130.h. The two headers can be used together. No function here returns a
- * struct, so this header is the same on 32-bit targets.
+ * Link with libfm3130.a, which holds these functions too. On 64-bit targets they need no other
+ * library; what they need on controllers, and the archive's version, FM3130_VERSION, are in
+ * fm3130.h. The two headers can be used together. No function here returns a struct, so this header
+ * is the same on 32-bit targets.
  *
  * For every function: Allocates nothing, keeps nothing, thread-safe on distinct buffers. It does
  * no input or output and always returns.

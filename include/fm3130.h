@@ -52,12 +52,13 @@
  *   fm3130_run(image, sizeof image, memory, sizeof memory,
  *              events, sizeof events, answers, sizeof answers);
  *
- * Link with libfm3130.a, which needs no other library, not even that of C. It is built for 64-bit
- * targets, x86-64 and arm64, and by `make controller` for Cortex-M4, Cortex-M0 and 32-bit RISC-V,
- * where it needs the functions of firmware/runtime.c or a library's (docs/CONTROLLER.md). Where a
- * target hands back a struct of two words in another way than the archive does, as 32-bit Arm, the
- * functions that return one cannot be used, and using one is an error of compilation; the others
- * can.
+ * Link with libfm3130.a. It is built for 64-bit targets, x86-64 and arm64, where it needs no other
+ * library, not even that of C, but for fm3130_judge: that function calls memcpy and memset, of a
+ * library or of firmware/runtime.c. By `make controller` it is built for Cortex-M4, Cortex-M0 and
+ * 32-bit RISC-V too, where more functions need those of firmware/runtime.c (docs/CONTROLLER.md).
+ * Where a target hands back a struct of two words in another way than the archive does, as 32-bit
+ * Arm, the functions that return one cannot be used, and using one is an error of compilation; the
+ * others can.
  *
  * For every function: Allocates nothing, keeps nothing, thread-safe on distinct buffers. It does
  * no input or output and always returns.
@@ -721,7 +722,7 @@ struct fm3130_judgement {
  *                       the table and they are not equally many
  *   number 3, place 0   file_length is above 61,440; nothing else is tested
  *
- * Uses some 9 KiB of stack, most of it for the copy of the memory.
+ * Uses some 9 KiB of stack, most of it for the copy of the memory, and calls memcpy and memset.
  *
  * Proved: JudgeForCSettled, crates/capture/specs/Verdict.antt; that the answer named is the first:
  * names-the-first, crates/capture/proofs/Laws.antt. Allocates nothing, keeps nothing, thread-safe.
