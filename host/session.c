@@ -1,7 +1,8 @@
 /* SPDX-License-Identifier: Apache-2.0 */
 /*
- * A full proving session: power up, the clock set, a lamp bit proved, a hang inside a byte, power
- * lost and returned, what is left of it all, and a lamp that goes dark as the bus falls silent.
+ * A full proving session: power up, the clock set, a lamp bit proved, power lost and returned, what
+ * is left of it all, and a lamp that goes dark as the bus falls silent. Then the hang of the
+ * minutes: a write that is cut, the old bit that lights the lamp again, and the firmware's duty.
  * scripts/proving-session.bus has the same events.
  */
 #include "session.h"
@@ -62,8 +63,9 @@ static void add_filled(struct session *session, struct fm3130_filled filled) {
     session->count += filled.count;
 }
 
-static void add_write_memory(struct session *session, const uint8_t *bytes, size_t count) {
-    add_filled(session, fm3130_write_events(LAMP, bytes, count, session->events + session->count,
+/* Writes the lamp's byte. */
+static void add_write_lamp(struct session *session, uint8_t byte) {
+    add_filled(session, fm3130_write_events(LAMP, &byte, 1, session->events + session->count,
                                             SESSION_ROOM - session->count));
 }
 
@@ -71,6 +73,17 @@ static void add_write_memory(struct session *session, const uint8_t *bytes, size
 static void add_read_lamp(struct session *session) {
     add_filled(session, fm3130_read_events(LAMP, 1, session->events + session->count,
                                            SESSION_ROOM - session->count));
+}
+
+/* The same, cut short: five clocks of the lamp's byte are done. */
+static void add_cut_write(struct session *session, uint8_t byte) {
+    add_write_lamp(session, byte);
+    session->count -= 5; /* its last three clocks, the acknowledge and the Stop */
+}
+
+static void add_cut_read(struct session *session) {
+    add_read_lamp(session);
+    session->count -= 5;
 }
 
 static void add_ticks(struct session *session, unsigned count) {
@@ -98,22 +111,19 @@ static void set_clock(struct session *session) {
     add_read_registers(session, 0x02, 3);
 }
 
-static void prove_lamp(struct session *session) {
-    static const uint8_t lit = 0x01;
-    add_write_memory(session, &lit, 1);
+/* Writes the lamp's byte and reads it back. */
+static void write_and_read(struct session *session, uint8_t byte) {
+    add_write_lamp(session, byte);
     add_read_lamp(session);
 }
 
-/* A write of none sets the address; without its Stop it stays open. */
-static void hang(struct session *session) {
-    static const uint8_t none;
-    add_write_memory(session, &none, 0);
-    session->count--;
-    add_clocks(session, 0x00, 5);
-    add_ticks(session, 2);
+static void prove_lamp(struct session *session) {
+    write_and_read(session, 0x01);
 }
 
+/* Power goes inside the next read of the lamp. */
 static void lose_power(struct session *session) {
+    add_cut_read(session);
     add(session, FM3130_POWER_LOST_WITH_BACKUP);
     add_ticks(session, 3);
     add(session, FM3130_POWER_RETURNED);
@@ -125,18 +135,23 @@ static void look_again(struct session *session) {
     add_read_lamp(session);
 }
 
-/* The master stops inside the next read of the lamp's byte; two seconds pass. */
-static void hang_in_read(struct session *session) {
+static void fall_silent(struct session *session) {
+    add_ticks(session, 3);
+}
+
+/* The lamp is read as lit; then it goes out, and the byte that says so is cut. */
+static void hang(struct session *session) {
     add_read_lamp(session);
-    session->count -= 5; /* the last four clocks and the Stop */
+    add_cut_write(session, 0x00);
     add_ticks(session, 2);
 }
 
-/* A third second passes; then a Start frees the bus, and a Stop ends the transfer. */
-static void fall_silent(struct session *session) {
-    add_ticks(session, 1);
-    add(session, FM3130_START);
+static void free_bus(struct session *session) {
     add(session, FM3130_STOP);
+}
+
+static void do_duty(struct session *session) {
+    write_and_read(session, 0x00);
 }
 
 /*
@@ -157,17 +172,21 @@ static const struct step steps[SESSION_STEPS] = {
     {"Set the clock to 08:59:58 on 15/11/26, day 7, and wait three seconds", set_clock, 0x09, 0,
      "it is nine o'clock"},
     {"Prove a lamp bit: write 01h at 1000h and read it back", prove_lamp, 0x01, 1,
-     "01h came back with all its clocks and its Stop: the bit is proved"},
-    {"The master hangs inside a byte: five clocks of 00h for the same place", hang, -1, 1,
-     "nothing is stored before the eighth clock"},
-    {"Main power is lost, the backup holds for three seconds, power returns", lose_power, 0x10, 0,
-     "POR is 1: power was lost, and LB is 0: the backup was there"},
+     "01h came back with all its clocks and its Stop: the lamp is lit"},
+    {"Main power is lost inside a read, the backup holds for three seconds, power returns",
+     lose_power, 0x10, 0, "POR is 1: power was lost, and LB is 0: the backup was there"},
     {"What is left: the clock and the lamp bit", look_again, 0x01, 1,
      "the clock ran on, and the proved bit stands"},
-    {"The hang of the minutes: the master stops inside the next read of the lamp", hang_in_read, -1,
-     1, "the lamp is lit for as long as its last whole read is young"},
-    {"A third second without a new whole read; then a Start frees the bus", fall_silent, -1, 0,
+    {"Three seconds without a new whole read", fall_silent, -1, 0,
      "the lamp is shown dark, though the memory holds 01h"},
+    {"The hang of the minutes: the lamp goes out, and the bus hangs inside the byte 00h for it",
+     hang, 0x01, 1, "nothing is stored before the eighth clock: the old bit stays"},
+    {"A Stop frees the bus", free_bus, -1, 0,
+     "a byte was cut: the bus failed, and all lamps are dark at once"},
+    {"The firmware takes its write for done, and reads the lamp", add_read_lamp, 0x01, 1,
+     "the lamp is lit again, by the old bit: lit says what was read, not what was to be written"},
+    {"The firmware's duty after a failure: write again, read back", do_duty, 0x00, 0,
+     "00h is acknowledged, stored and read back: the lamp is dark by its own bit"},
 };
 
 void session_list(struct session *session) {

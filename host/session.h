@@ -8,7 +8,7 @@
 
 #include "story.h"
 
-enum { SESSION_STEPS = 8, SESSION_ROOM = 2048 };
+enum { SESSION_STEPS = 10, SESSION_ROOM = 2048 };
 
 /* The events of the session, and where each step ends. */
 struct session {

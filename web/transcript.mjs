@@ -43,7 +43,7 @@ export function panelOf(happenings) {
     shown = happening.lamps;
     return `${lampSigns(shown)}  ${lineOf(happening)}${change}`;
   });
-  return ['01234567  lamps at 1000h to 1007h: * lit, . dark', ...lines];
+  return ['01234567  lamps at 1000h to 1007h: * lit, as its last whole read says; . dark', ...lines];
 }
 
 /** Which lamps went on, and which off, in words; nothing where none did. */

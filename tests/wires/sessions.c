@@ -177,6 +177,34 @@ static void check_refused(void) {
     end();
 }
 
+/* The master stops inside a read of the lamp's byte. */
+static void hang_reading(void) {
+    begin_memory(LAMP, 0x00);
+    master_starts();
+    send("the memory's slave byte", MEMORY_READ);
+    master_hangs(0xFF, 5);
+}
+
+/* A byte for the lamp is cut: the old bit stays until it is written again. */
+static void check_cut_write(void) {
+    begin_memory(LAMP, 0x00);
+    master_hangs(0x00, 5);
+    pass_seconds(2);
+    end();
+    must_equal("the old bit", read_memory(LAMP, 0x00), 0x01);
+    must_equal("the lamp's byte, written again", write_memory(LAMP, 0x00, 0x00), 1);
+    must_equal("the new bit", read_memory(LAMP, 0x00), 0x00);
+}
+
+/* The way out of a read in which the device pulls SDA. */
+static void check_recovery(void) {
+    hang_reading();
+    pass_seconds(3);
+    master_recovers();
+    master_starts();
+    end();
+}
+
 static uint32_t play_proving(enum pace pace, uint32_t tick_at) {
     static const uint8_t morning[FIELDS] = {58, 59, 8, 7, 15, 11, 26};
     wires_begin(pace, tick_at);
@@ -189,23 +217,17 @@ static uint32_t play_proving(enum pace pace, uint32_t tick_at) {
     check_clock(SECONDS, 3);
     must_equal("the lamp's byte", write_memory(LAMP, 0x00, 0x01), 1);
     must_equal("the lamp read back", read_memory(LAMP, 0x00), 0x01);
-    begin_memory(LAMP, 0x00); /* hangs inside a byte for the same place */
-    master_hangs(0x00, 5);
-    pass_seconds(2);
+    hang_reading(); /* and power is lost there */
     due(FM3130_POWER_LOST_WITH_BACKUP);
     pass_seconds(3);
     due(FM3130_POWER_RETURNED);
     must_equal("00h after the backup", read_flags(), 0x10);
     check_clock(SECONDS, 3);
     must_equal("the lamp read back", read_memory(LAMP, 0x00), 0x01);
-    begin_memory(LAMP, 0x00); /* hangs inside a read of it */
-    master_starts();
-    send("the memory's slave byte", MEMORY_READ);
-    master_hangs(0xFF, 5);
     pass_seconds(3);
-    master_recovers();
-    master_starts();
-    end();
+    must_equal("the lamp read again", read_memory(LAMP, 0x00), 0x01);
+    check_cut_write();
+    check_recovery();
     check_refused();
     check_clock(SECONDS, FIELDS);
     return place();

@@ -9,7 +9,7 @@ use crate::output::Output;
 use crate::transcript::line_of;
 
 /// The lamps by their numbers, above the column that shows them.
-const HEAD: &str = "01234567  lamps at 1000h to 1007h: * lit, . dark";
+const HEAD: &str = "01234567  lamps at 1000h to 1007h: * lit, as its last whole read says; . dark";
 
 /// Prints the lamps beside what happens.
 pub struct Panel<'run> {

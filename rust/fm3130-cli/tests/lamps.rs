@@ -11,18 +11,62 @@ fn changes(printed: &str) -> Vec<&str> {
 }
 
 #[test]
-fn the_proving_session_ends_with_a_hang_and_a_dark_lamp() {
+fn the_proving_session_ends_with_the_hang_of_the_minutes_and_the_duty() {
     let folder = Folder::new("lamps-session");
     let printed = folder.succeed(&["lamps", &script("proving-session")]);
-    assert!(printed.starts_with("01234567  lamps at 1000h to 1007h: * lit, . dark\n"));
+    let head = "01234567  lamps at 1000h to 1007h: * lit, as its last whole read says; . dark\n";
+    assert!(printed.starts_with(head));
     assert_eq!(
         changes(&printed),
         [
             "*.......  ]       Stop  <- lamp 0 lit",
             "........  lost    main power lost, backup present  <- lamp 0 dark",
             "*.......  ]       Stop  <- lamp 0 lit",
-            "........  t*3     3 ticks after 5 clocks of a byte: 09:00:06, 15/11/26, day 7 -> \
-             09:00:09, 15/11/26, day 7, a second passed  <- lamp 0 dark",
+            "........  t*3     3 ticks: 09:00:04, 15/11/26, day 7 -> 09:00:07, 15/11/26, day 7, \
+             a second passed  <- lamp 0 dark",
+            // Read as lit; then the Stop that cuts the byte 00h; then the old bit is read.
+            "*.......  ]       Stop  <- lamp 0 lit",
+            "........  ]       Stop  <- lamp 0 dark",
+            "*.......  ]       Stop  <- lamp 0 lit",
+            // Written again and read back.
+            "........  ]       Stop  <- lamp 0 dark",
+        ]
+    );
+}
+
+/// What lit does not mean (docs/GUIDE.md): a write of 00h that is cut leaves the old 01h. The bus
+/// fails, all lamps are dark, and the next whole read lights the lamp again.
+#[test]
+fn a_cut_write_leaves_the_old_bit_and_the_next_read_lights_it() {
+    let folder = Folder::new("lamps-cut");
+    let read = "[ A0 10 00 [ A1 r ]";
+    let text = format!("[ A0 10 00 01 ] {read} [ A0 10 00 {{00000}} ] {read}");
+    let ran = folder.run_with(&["lamps", "-"], &text);
+    assert_eq!(
+        changes(&ran.output),
+        [
+            "*.......  ]       Stop  <- lamp 0 lit",
+            "........  ]       Stop  <- lamp 0 dark",
+            "*.......  ]       Stop  <- lamp 0 lit",
+        ]
+    );
+}
+
+/// Seven clocks of 00h, two with the line released and a Stop: 01h is stored and acknowledged, and no
+/// lamp goes dark, since the bus did not fail.
+#[test]
+fn released_clocks_after_seven_of_a_byte_store_a_bit_that_nobody_sent() {
+    let folder = Folder::new("lamps-released");
+    let proved = "[ A0 10 01 01 ] [ A0 10 01 [ A1 r ]";
+    let text = format!("{proved} [ A0 10 00 {{0000000}} {{11}} ] [ A0 10 00 [ A1 r ]");
+    let ran = folder.run_with(&["lamps", "-"], &text);
+    let stored = "  write 01h  ACK   memory 1000h: stored\n";
+    assert!(ran.output.contains(stored), "{}", ran.output);
+    assert_eq!(
+        changes(&ran.output),
+        [
+            ".*......  ]       Stop  <- lamp 1 lit",
+            "**......  ]       Stop  <- lamp 0 lit",
         ]
     );
 }
