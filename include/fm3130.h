@@ -396,6 +396,9 @@ struct fm3130_shown {
  * device does not give, and at event 5 or 6. What a read gave is what the line showed, so a master
  * that pulls the line low in the eight clocks of a read reads what it pulls.
  *
+ * Lit is what was read, not what was to be written: a write that hangs leaves the old bit, and the
+ * next whole read lights the lamp by it. After a failure write again and read back (docs/GUIDE.md).
+ *
  * The record is 20 bytes of the caller's, beside the image. 20 zeros are the record before any
  * event: begin with them on a device between transfers. The record sees the events of these calls
  * alone, so let no other call change the device between two of them. A list may be cut into pieces

@@ -3,6 +3,9 @@
 
 mod support;
 
+use std::path::Path;
+use std::process::Command;
+
 use support::{script, Folder};
 
 /// The lines of a run in which a lamp changed.
@@ -92,6 +95,34 @@ fn lamps_after_each_thing_that_happens() {
     );
 }
 
+/// The lines that docs/GUIDE.md shows below each call of `fm3130 lamps` are those that it prints.
+#[test]
+fn the_guide_shows_what_is_printed() {
+    let guide = include_str!("../../../docs/GUIDE.md");
+    let binary = Path::new(env!("CARGO_BIN_EXE_fm3130"));
+    let folders = format!("{}:/usr/bin:/bin", binary.parent().unwrap().display());
+    let mut lines = guide.lines().map(str::trim_start);
+    let mut calls = 0;
+    while let Some(line) = lines.next() {
+        let Some(call) = line
+            .strip_prefix("$ ")
+            .filter(|call| call.contains("fm3130 lamps"))
+        else {
+            continue;
+        };
+        let shown: Vec<&str> = lines.by_ref().take_while(|line| !line.is_empty()).collect();
+        let ran = Command::new("sh")
+            .args(["-c", call])
+            .env("PATH", &folders)
+            .output()
+            .unwrap();
+        let printed = String::from_utf8(ran.stdout).unwrap();
+        assert_eq!(printed.lines().collect::<Vec<_>>(), shown, "{call}");
+        calls += 1;
+    }
+    assert!(calls >= 3, "{calls} calls are few");
+}
+
 /// Three ticks, a byte that is not acknowledged, a cut byte and a loss of power each darken a lamp.
 #[test]
 fn what_darkens_a_lamp() {
@@ -138,4 +169,16 @@ fn the_drawing_has_the_lamps_below_the_wires() {
     // Eight lines a stretch, at most one of them lit.
     let dark = lamps.matches("stroke=\"#d5dae1\"").count();
     assert_eq!((dark + lamps.matches(lit).count()) % 8, 0);
+}
+
+/// To draw docs/proving-session.svg anew: `fm3130 lamps scripts/proving-session.bus --svg` with its name.
+#[test]
+fn the_picture_in_the_documents_is_that_of_the_session() {
+    let folder = Folder::new("lamps-picture");
+    folder.succeed(&["lamps", &script("proving-session"), "--svg", "lamps.svg"]);
+    let stored = include_bytes!("../../../docs/proving-session.svg");
+    assert!(
+        folder.read("lamps.svg") == stored,
+        "the session has another picture"
+    );
 }

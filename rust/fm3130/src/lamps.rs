@@ -59,6 +59,9 @@ impl fmt::Display for Report {
 /// gave 1 and fewer than three ticks have passed since the Stop that ended it. That is proved of the
 /// archive, for a record that begins with a device between transfers.
 ///
+/// Lit is what was read, not what was to be written: a write that hangs leaves the old bit, and the
+/// next whole read lights the lamp by it. After a failure write again and read back.
+///
 /// ```
 /// use fm3130::{event, master, Device, Lamps};
 ///
