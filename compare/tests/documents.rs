@@ -5,6 +5,7 @@
 //!   lists.
 //! * Its tables have every public function, as an entry or as another, and every `requires` of one.
 //! * docs/EDITS.md has every edit, with the rule that it breaks.
+//! * D35 and D43 of docs/DECISIONS.md name what exists, and every public enum.
 
 use compare::edits::{self, top};
 use std::collections::BTreeSet;
@@ -87,18 +88,22 @@ fn fault(name: &str) -> Option<String> {
     }
 }
 
-/// Holds every name in a page of docs/, which has more than `few` of them, to the files.
-fn hold(page: &str, few: usize) {
-    let text = text_of(&top().join("docs").join(page)).unwrap();
-    let names: Vec<&str> = text
-        .split('`')
-        .skip(1)
-        .step_by(2)
-        .filter(|span| span.contains('/'))
-        .collect();
+/// What a text has between backticks.
+fn spans_of(text: &str) -> impl Iterator<Item = &str> {
+    text.split('`').skip(1).step_by(2)
+}
+
+/// Holds every name in a text, which has more than `few` of them, to the files.
+fn hold_names(text: &str, few: usize) {
+    let names: Vec<&str> = spans_of(text).filter(|span| span.contains('/')).collect();
     assert!(names.len() > few, "{} names are few", names.len());
     let faults: Vec<String> = names.iter().filter_map(|name| fault(name)).collect();
     assert!(faults.is_empty(), "{}", faults.join("\n"));
+}
+
+/// Holds every name in a page of docs/.
+fn hold(page: &str, few: usize) {
+    hold_names(&text_of(&top().join("docs").join(page)).unwrap(), few);
 }
 
 #[test]
@@ -109,6 +114,47 @@ fn every_name_in_the_statements_exists() {
 #[test]
 fn every_name_in_the_auditors_page_exists() {
     hold("AUDIT.md", 15);
+}
+
+/// Where the forms of 01 stand and which enums are answers: D35 and D43 of docs/DECISIONS.md.
+fn forms() -> String {
+    let text = text_of(&top().join("docs/DECISIONS.md")).unwrap();
+    let from = text
+        .find("\n## D35. ")
+        .expect("docs/DECISIONS.md has no D35");
+    let part = &text[from + 1..];
+    part[..part.find("\n## ").unwrap_or(part.len())].to_string()
+}
+
+#[test]
+fn every_name_in_the_forms_exists() {
+    hold_names(&forms(), 50);
+}
+
+#[test]
+fn every_enum_is_said_to_be_an_answer_or_none() {
+    let forms = forms();
+    let (_, answers) = forms.split_once("### D43. ").unwrap();
+    let named: BTreeSet<&str> = spans_of(answers).collect();
+    let mut enums = 0;
+    for owner in entries_of(&top().join("crates")) {
+        for file in entries_of(&owner.join("src")) {
+            let text = text_of(&file).unwrap();
+            for line in text
+                .lines()
+                .filter_map(|line| line.strip_prefix("pub enum "))
+            {
+                let name = line.trim_end_matches(" {");
+                assert!(
+                    named.contains(name),
+                    "D43 lacks {name} of {}",
+                    file.display()
+                );
+                enums += 1;
+            }
+        }
+    }
+    assert!(enums > 15, "{enums} enums are few");
 }
 
 #[test]
