@@ -472,7 +472,7 @@ uint64_t fm3130_view_number(const uint8_t *image, uint64_t image_length, const u
  * bytes there. Under every other number the part is empty: the address is memory, and none of its
  * bytes belong to the part.
  *
- * Tested, not proved (the proved viewer is `view` in crates/view/src/lib.rt, for callers in
+ * Tested, not proved (the proved viewer is `view` in crates/view/src/fm3130.rt, for callers in
  * Rattle: an exported function cannot return a reference). Allocates nothing, keeps nothing,
  * thread-safe on distinct buffers.
  */
