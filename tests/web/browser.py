@@ -232,13 +232,14 @@ class PageTest(unittest.TestCase):
         self.assertEqual(self.fact("Bus"), "between transfers")
 
     def test_an_image_and_a_memory_are_saved_and_loaded(self):
-        self.choose("proving-session.bus")
+        script = "[ D0 01 00 ] t*3 [ A0 01 23 5A ]"
+        self.write(script)
         self.run_script()
         paths = [FOLDER / name for name in ("expected.image", "expected.memory")]
         for path in paths:
             path.unlink(missing_ok=True)
         words = ["--image", str(paths[0]), "--memory", str(paths[1])]
-        self.command("run", str(SCRIPTS / "proving-session.bus"), *words, "--quiet")
+        self.command("run", "-", *words, "--quiet", given=script)
         self.assertEqual(self.saved("image.bin"), paths[0].read_bytes())
         self.assertEqual(self.saved("memory.bin"), paths[1].read_bytes())
         calendar = self.fact("Calendar")
