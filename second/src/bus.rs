@@ -470,27 +470,24 @@ impl Bus {
     /// "event 5 while off ... changes nothing"
     fn power_lost_with_backup<P: Part>(&mut self) {
         if self.power == Power::On {
-            self.lose_main_power::<P>();
+            self.lose_power::<P>();
             self.power = Power::Backup;
         }
     }
 
-    /// "Event 6 while off with backup takes the backup away"; "6 when both
-    /// supplies are already gone, changes nothing"
+    /// "Event 6 while off with backup takes the backup away", and is a loss of
+    /// power like any other (READINGS 13); "6 when both supplies are already
+    /// gone, changes nothing"
     fn power_lost_without_backup<P: Part>(&mut self, part: &mut P) {
-        match self.power {
-            Power::On => {
-                self.lose_main_power::<P>();
-                self.lose_last_supply(part);
-            }
-            Power::Backup => self.lose_last_supply(part),
-            Power::Gone => {}
+        if self.power != Power::Gone {
+            self.lose_power::<P>();
+            self.lose_last_supply(part);
         }
     }
 
     /// "Power lost: the transfer ends, both addresses become 0." 02, number 5:
     /// "the companion address starts at 09h, also after power loss".
-    fn lose_main_power<P: Part>(&mut self) {
+    fn lose_power<P: Part>(&mut self) {
         self.end_transfer();
         self.memory_address = 0;
         self.companion_address = P::FIRST_COMPANION_ADDRESS;

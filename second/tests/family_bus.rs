@@ -186,6 +186,41 @@ fn addresses_after_a_loss_of_power() {
     }
 }
 
+/// Event 6 on backup is a loss of power too (READINGS 13): from a state handed in
+/// with other addresses it leaves 0000h and 09h, and no transfer.
+#[test]
+fn event_6_on_backup_is_a_loss_of_power() {
+    for size in SIZES {
+        let mut device = filled(size);
+        device.power = Power::Backup;
+        device.memory_address = 0x0332;
+        device.companion_address = 0x0E;
+        device.transfer.phase = Phase::WriteData(LogicalDevice::Memory);
+        device.event(6);
+        assert_eq!((device.memory_address, device.companion_address), (0, 9));
+        assert!(device.between_transfers());
+        device.event(7);
+        assert_ne!(device.memory[0x0000], device.memory[0x0332]);
+        assert_eq!(host::read(&mut device, 0xA1, 1), device.memory[..1]);
+    }
+}
+
+/// Event 5 while off, event 6 with both supplies gone and event 7 lose nothing.
+#[test]
+fn power_events_that_lose_nothing_keep_the_addresses() {
+    for (power, events) in [(Power::Backup, &[5, 7][..]), (Power::Gone, &[5, 6, 7])] {
+        for event in events {
+            let mut device = filled(Size::Kilobits64);
+            device.power = power;
+            device.memory_address = 0x0332;
+            device.companion_address = 0x0E;
+            device.event(*event);
+            let addresses = (device.memory_address, device.companion_address);
+            assert_eq!(addresses, (0x0332, 0x0E), "event {event}, {power:?}");
+        }
+    }
+}
+
 /// "eight then power lost: new byte" (K11).
 #[test]
 fn seven_clocks_and_eight() {

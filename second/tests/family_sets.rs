@@ -169,6 +169,28 @@ fn power_events_reach_all() {
     assert!(set == before);
 }
 
+/// Event 6 reaches those on backup as a loss of power (READINGS 13): of devices
+/// handed in with different supplies and other addresses, only those whose
+/// supplies were gone already keep them.
+#[test]
+fn event_6_is_a_loss_for_each_device_that_has_a_supply() {
+    let powers = [Power::On, Power::Backup, Power::Gone];
+    let members = powers.iter().zip(0..3).map(|(power, selects)| {
+        let mut made = member(Size::Kilobits64, selects);
+        made.state.power = *power;
+        made.state.memory_address = 0x0332;
+        made.state.companion_address = 0x0E;
+        made
+    });
+    let mut set = Set::make(members.collect()).expect("nothing to refuse");
+    set.event(6);
+    let addresses = set.devices.iter();
+    let addresses: Vec<(u16, u8)> = addresses
+        .map(|one| (one.memory_address, one.companion_address))
+        .collect();
+    assert_eq!(addresses, [(0, 9), (0, 9), (0x0332, 0x0E)]);
+}
+
 // ----- each device as alone -----
 
 /// The event that a device sees of an event of the set.

@@ -4,7 +4,7 @@
 use second::calendar::calendar_from_numbers;
 use second::generate::Script;
 use second::host;
-use second::{Calendar, Device, Power};
+use second::{Calendar, Device, LogicalDevice, Phase, Power};
 
 const WITHOUT_SUPPLY: [u8; 15] = [0x90, 0x80, 0, 0, 0, 1, 1, 1, 0, 0, 0, 0, 0, 0, 0];
 
@@ -254,6 +254,56 @@ fn event_6_while_off_with_backup_takes_the_backup_away() {
     assert_eq!(device.power, Power::Gone);
     assert_eq!(device.registers, WITHOUT_SUPPLY);
     assert_eq!(device.core, Device::fresh().core);
+}
+
+/// A fresh device without main power whose addresses are not 0: 01's limits admit
+/// it, no events reach it.
+fn handed_in(power: Power) -> Device {
+    let mut device = Device::fresh();
+    device.memory[0x0000] = 0x5A;
+    device.memory[0x0332] = 0xC3;
+    device.power = power;
+    device.memory_address = 0x0332;
+    device.companion_address = 8;
+    device
+}
+
+/// "Power lost: the transfer ends, both addresses become 0." Event 6 on backup is
+/// a loss of power too (READINGS 13).
+#[test]
+fn event_6_while_off_with_backup_makes_both_addresses_0() {
+    let mut device = handed_in(Power::Backup);
+    device.transfer.phase = Phase::ReadData(LogicalDevice::Memory);
+    device.transfer.clocks = 3;
+    device.event(6);
+    assert_eq!((device.memory_address, device.companion_address), (0, 0));
+    assert!(device.between_transfers());
+}
+
+/// Events 6, 7, Start, slave byte A1h, nine clocks: the byte at 0000h is read.
+#[test]
+fn after_event_6_on_backup_a_read_begins_at_0() {
+    let mut device = handed_in(Power::Backup);
+    device.run(&[6, 7]);
+    assert!(host::begin(&mut device, 0xA1));
+    assert_eq!(host::receive_byte(&mut device, false), 0x5A);
+}
+
+/// The other power events while off keep the addresses of a state handed in.
+#[test]
+fn power_events_that_lose_nothing_keep_the_addresses() {
+    for (power, event) in [
+        (Power::Backup, 5),
+        (Power::Backup, 7),
+        (Power::Gone, 5),
+        (Power::Gone, 6),
+        (Power::Gone, 7),
+    ] {
+        let mut device = handed_in(power);
+        device.event(event);
+        let addresses = (device.memory_address, device.companion_address);
+        assert_eq!(addresses, (0x0332, 8), "event {event}, {power:?}");
+    }
 }
 
 #[test]
