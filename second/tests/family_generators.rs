@@ -9,7 +9,7 @@ use std::collections::{BTreeMap, BTreeSet};
 
 /// Family, number of lists, number of events of `family_exhaustive`, for either
 /// size.
-const EXHAUSTIVE_EVENTS: [(&str, usize, usize); 24] = [
+const EXHAUSTIVE_EVENTS: [(&str, usize, usize); 25] = [
     ("family-address-wraps", 54, 29_484),
     ("family-companion-addresses", 256, 76_288),
     ("family-count-controls", 512, 204_032),
@@ -21,6 +21,7 @@ const EXHAUSTIVE_EVENTS: [(&str, usize, usize); 24] = [
     ("family-flags-kept", 2048, 356_352),
     ("family-frozen-reads", 780, 244_036),
     ("family-handed-in", 96, 37_536),
+    ("family-handed-in-addresses", 972, 59_292),
     ("family-insertions", 1416, 307_992),
     ("family-locks-and-protection", 64, 81_664),
     ("family-locks-and-supplies", 108, 97_416),
@@ -36,7 +37,7 @@ const EXHAUSTIVE_EVENTS: [(&str, usize, usize); 24] = [
     ("family-writes-while-frozen", 128, 48_224),
 ];
 
-const EXHAUSTIVE_TOTAL: (usize, usize) = (29_672, 9_233_626);
+const EXHAUSTIVE_TOTAL: (usize, usize) = (30_644, 9_292_918);
 
 const STRUCTURED_FAMILIES: [&str; 10] = [
     "family-cut-transactions",
@@ -119,6 +120,59 @@ fn generators_are_deterministic_and_seeds_matter() {
         for asked in [0, 1, 50_000, 200_000] {
             let count = generate::count_family_events(&generator(size, 3, asked));
             assert!(asked <= count && count <= asked + 10_000);
+        }
+    }
+}
+
+/// Under every supply both addresses are those that a loss of power leaves in some
+/// states handed in and not in others.
+#[test]
+fn addresses_are_handed_in_under_every_supply() {
+    for size in SIZES {
+        for lists in [
+            generate::family_exhaustive(size),
+            generate::family_random(size, 1, 200_000),
+        ] {
+            for power in [Power::On, Power::Backup, Power::Gone] {
+                let states = lists.iter().map(|list| list.state);
+                let states = states.filter(|state| state.power == power);
+                assert!(states.clone().any(|state| state.memory_address > 0));
+                assert!(states.clone().any(|state| state.companion_address > 9));
+            }
+        }
+    }
+}
+
+/// The answers of a device that keeps its addresses at event 6 on backup.
+fn answers_of_one_that_keeps_addresses(mut device: Device, events: &[u8]) -> Vec<u8> {
+    let mut answers = Vec::new();
+    for event in events {
+        let before = (
+            device.power,
+            device.memory_address,
+            device.companion_address,
+        );
+        answers.push(device.event(*event));
+        if before.0 == Power::Backup && *event == 6 {
+            (device.memory_address, device.companion_address) = (before.1, before.2);
+        }
+    }
+    answers
+}
+
+/// READINGS 13 is seen in the answers of the lists with states handed in.
+#[test]
+fn states_handed_in_tell_a_device_that_keeps_its_addresses() {
+    for size in SIZES {
+        for lists in [
+            generate::family_exhaustive(size),
+            generate::family_random(size, 1, 1_000_000),
+        ] {
+            let told = lists.iter().any(|list| {
+                let kept = answers_of_one_that_keeps_addresses(list.device(), &list.events);
+                list.device().run(&list.events) != kept
+            });
+            assert!(told);
         }
     }
 }

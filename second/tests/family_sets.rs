@@ -8,12 +8,13 @@ use second::host;
 use std::collections::{BTreeMap, BTreeSet};
 
 /// Family, number of lists, number of events of `set_exhaustive`.
-const EXHAUSTIVE_EVENTS: [(&str, usize, usize); 5] = [
+const EXHAUSTIVE_EVENTS: [(&str, usize, usize); 6] = [
     ("set-arrangements", 128, 281_312),
     ("set-edges-inside", 720, 903_744),
     ("set-other-starts", 1184, 1_461_416),
     ("set-power-inside", 816, 990_312),
     ("set-slave-bytes", 1536, 1_250_304),
+    ("set-supplies", 729, 118_827),
 ];
 
 const SET_CALLS: usize = 1710;
@@ -438,6 +439,51 @@ fn exhaustive_families_have_the_written_counts() {
         .collect();
     assert_eq!(found, EXHAUSTIVE_EVENTS);
     assert!(lists == generate::set_exhaustive());
+}
+
+/// Every supply is handed in, with addresses that no loss of power leaves.
+#[test]
+fn addresses_are_handed_in_under_every_supply() {
+    for lists in [generate::set_exhaustive(), generate::set_random(1, 200_000)] {
+        for power in [Power::On, Power::Backup, Power::Gone] {
+            let states = lists.iter().flat_map(|list| &list.places);
+            let states = states.map(|place| place.state);
+            let states = states.filter(|state| state.power == power);
+            assert!(states.clone().any(|state| state.memory_address > 0));
+            assert!(states.clone().any(|state| state.companion_address > 9));
+        }
+    }
+}
+
+/// The answers of a set whose devices keep their addresses at event 6 on backup.
+fn answers_of_one_that_keeps_addresses(mut set: Set, events: &[u8]) -> Vec<u8> {
+    let mut answers = Vec::new();
+    for event in events {
+        let before = set.states();
+        answers.push(set.event(*event));
+        for (device, old) in set.devices.iter_mut().zip(before) {
+            if old.power == Power::Backup && *event == 6 {
+                device.memory_address = old.memory_address;
+                device.companion_address = old.companion_address;
+            }
+        }
+    }
+    answers
+}
+
+/// READINGS 13 is seen in the answers of the lists with states handed in.
+#[test]
+fn states_handed_in_tell_devices_that_keep_their_addresses() {
+    let mut exhaustive = generate::set_exhaustive();
+    exhaustive.retain(|list| list.family == "set-supplies");
+    for lists in [exhaustive, generate::set_random(1, 1_000_000)] {
+        let told = lists.iter().any(|list| {
+            let kept = answers_of_one_that_keeps_addresses(list.set(), &list.events);
+            let answers = list.set().run(&list.events, list.events.len());
+            answers.expect("accepted") != kept
+        });
+        assert!(told);
+    }
 }
 
 #[test]

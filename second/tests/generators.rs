@@ -3,6 +3,7 @@
 
 use second::generate::{self, fill_memory, List, RandomSource, Script};
 use second::registers::STORED_BITS;
+use second::{Device, Power};
 use std::collections::{BTreeMap, BTreeSet};
 
 /// Family, number of lists, number of events of `exhaustive()`.
@@ -39,10 +40,11 @@ const EXHAUSTIVE_EVENTS: [(&str, usize, usize); 27] = [
 const EXHAUSTIVE_TOTAL: usize = 7_672_777;
 
 /// The same for `handed_in()`.
-const HANDED_IN_EVENTS: [(&str, usize, usize); 3] = [
+const HANDED_IN_EVENTS: [(&str, usize, usize); 4] = [
     ("core-bytes", 680, 152_320),
     ("core-samples", 792, 237_600),
     ("register-samples", 528, 146_784),
+    ("supplies-and-addresses", 432, 22_464),
 ];
 
 const STRUCTURED_FAMILIES: [&str; 21] = [
@@ -149,6 +151,55 @@ fn states_handed_in_are_within_the_limits() {
         for (byte, stored) in device.core.to_bytes().iter().zip(&STORED_BITS[2..=8]) {
             assert_eq!(byte & !stored, 0, "{}", list.name);
         }
+    }
+}
+
+/// Under every supply both addresses are 0 in some states handed in and not in
+/// others.
+#[test]
+fn addresses_are_handed_in_under_every_supply() {
+    for lists in [
+        generate::handed_in(),
+        generate::handed_in_random(1, 200_000),
+    ] {
+        for power in [Power::On, Power::Backup, Power::Gone] {
+            let states = lists.iter().map(|list| list.state);
+            let states = states.filter(|state| state.power == power);
+            assert!(states.clone().any(|state| state.memory_address > 0));
+            assert!(states.clone().any(|state| state.companion_address > 0));
+        }
+    }
+}
+
+/// The answers of a device that keeps its addresses at event 6 on backup.
+fn answers_of_one_that_keeps_addresses(mut device: Device, events: &[u8]) -> Vec<u8> {
+    let mut answers = Vec::new();
+    for event in events {
+        let before = (
+            device.power,
+            device.memory_address,
+            device.companion_address,
+        );
+        answers.push(device.event(*event));
+        if before.0 == Power::Backup && *event == 6 {
+            (device.memory_address, device.companion_address) = (before.1, before.2);
+        }
+    }
+    answers
+}
+
+/// READINGS 13 is seen in the answers of the lists with states handed in.
+#[test]
+fn states_handed_in_tell_a_device_that_keeps_its_addresses() {
+    for lists in [
+        generate::handed_in(),
+        generate::handed_in_random(1, 1_000_000),
+    ] {
+        let told = lists.iter().any(|list| {
+            let kept = answers_of_one_that_keeps_addresses(list.device(), &list.events);
+            list.device().run(&list.events) != kept
+        });
+        assert!(told);
     }
 }
 

@@ -6,7 +6,7 @@ use super::random_lists::random;
 use super::random_source::RandomSource;
 use super::sample_calendars::{invalid_calendars, leap_day, valid_calendars};
 use super::script::Script;
-use super::starting_state::{any_state, StartingState};
+use super::starting_state::{any_state, begin_with, power_back, StartingState};
 use super::{fill_memory, List};
 use crate::calendar::{calendar_from_numbers, Calendar};
 use crate::device::{Device, Power};
@@ -58,6 +58,7 @@ pub fn handed_in() -> Vec<HandedInList> {
     let mut lists = core_bytes();
     lists.extend(cores_and_settings());
     lists.extend(registers_and_controls());
+    lists.extend(supplies_and_addresses());
     lists
 }
 
@@ -132,6 +133,46 @@ fn registers_and_controls() -> Vec<HandedInList> {
     lists
 }
 
+/// Every supply with addresses that no loss of power leaves.
+fn supplies_with_addresses() -> Vec<StartingState> {
+    let mut states = Vec::new();
+    for power in [Power::On, Power::Backup, Power::Gone] {
+        for memory_address in [0x0000, 0x0332, 0x1FFF] {
+            for companion_address in [0x00, 0x08, 0x0E] {
+                states.push(StartingState {
+                    power,
+                    memory_address,
+                    companion_address,
+                    ..StartingState::running(0x00, noon(), noon())
+                });
+            }
+        }
+    }
+    states
+}
+
+/// Every supply and addresses with every two events out of tick, 5, 6 and 7; then
+/// power returns, and what is read shows both addresses.
+fn supplies_and_addresses() -> Vec<HandedInList> {
+    let mut lists = Vec::new();
+    for (number, state) in supplies_with_addresses().into_iter().enumerate() {
+        for pair in 0..16_u8 {
+            let mut script = Script::new();
+            script.event(4 + pair / 4).event(4 + pair % 4);
+            script.power_returned().memory_read_current(1);
+            script.companion_read_current(2);
+            let name = format!("state {number}, pair {pair}");
+            lists.push(HandedInList::new(
+                "supplies-and-addresses",
+                name,
+                state,
+                script,
+            ));
+        }
+    }
+    lists
+}
+
 /// Random lists with about so many events in all, each in a state of its own.
 pub fn handed_in_random(seed: u64, approximate_events: usize) -> Vec<HandedInList> {
     let mut source = RandomSource::new(!seed);
@@ -141,12 +182,16 @@ pub fn handed_in_random(seed: u64, approximate_events: usize) -> Vec<HandedInLis
         .collect()
 }
 
-fn in_any_state(source: &mut RandomSource, list: List) -> HandedInList {
+fn in_any_state(source: &mut RandomSource, mut list: List) -> HandedInList {
+    let state = any_state(source);
+    if state.power != Power::On && source.chance(50) {
+        begin_with(&power_back(source), &mut list.events);
+    }
     HandedInList {
         family: list.family,
         name: list.name,
         memory_seed: list.memory_seed,
-        state: any_state(source),
+        state,
         events: list.events,
     }
 }

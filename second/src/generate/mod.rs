@@ -60,7 +60,8 @@
 //! | core-bytes | 680 | 152,320 | every byte that each field of the core can hold |
 //! | core-samples | 792 | 237,600 | every kind of fault with W, R, oscillator, supply |
 //! | register-samples | 528 | 146,784 | every kind of fault in 02h to 08h, W and R |
-//! | all | 2,000 | 536,704 | |
+//! | supplies-and-addresses | 432 | 22,464 | every supply, addresses that no loss leaves |
+//! | all | 2,432 | 559,168 | |
 //!
 //! What [`ticks_told`] holds:
 //!
@@ -99,7 +100,8 @@
 //! | family-power-sequences | 2,592 | 990,144 | all four events out of 4 to 9 |
 //! | family-power-everywhere | 2,124 | 643,236 | a loss of power after every clock |
 //! | family-handed-in | 96 | 37,536 | every supply with every byte of 0Ch |
-//! | all | 29,672 | 9,233,626 | |
+//! | family-handed-in-addresses | 972 | 59,292 | every supply, addresses that no loss leaves |
+//! | all | 30,644 | 9,292,918 | |
 //!
 //! What [`set_exhaustive`] holds; `tests/family_sets.rs` fails when the numbers are
 //! no longer true:
@@ -111,7 +113,8 @@
 //! | set-edges-inside | 720 | 903,744 | ticks and edges on all inputs after every clock |
 //! | set-power-inside | 816 | 990,312 | power events inside transactions |
 //! | set-other-starts | 1,184 | 1,461,416 | a Start to another device inside a transaction |
-//! | all | 4,384 | 4,887,088 | |
+//! | set-supplies | 729 | 118,827 | every choice of supplies, addresses that no loss leaves |
+//! | all | 5,113 | 5,005,915 | |
 
 mod exhaustive_bad_dates;
 mod exhaustive_bus;

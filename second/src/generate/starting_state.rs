@@ -3,6 +3,7 @@
 //! ones that events reach from the fresh state.
 
 use super::random_source::RandomSource;
+use super::script::Script;
 use super::transactions::{doubtful_calendar, plausible_alarm, plausible_calendar};
 use crate::calendar::Calendar;
 use crate::device::{Device, Power, LAST_MEMORY_ADDRESS};
@@ -55,6 +56,25 @@ impl StartingState {
     }
 }
 
+/// What a list on a device without main power may begin with: two power events or
+/// ticks, power back, and reads that show both addresses.
+pub fn power_back(source: &mut RandomSource) -> Script {
+    let mut script = Script::new();
+    for _ in 0..2 {
+        script.event(source.pick(&[4, 5, 6, 6, 7]));
+    }
+    script.power_returned().memory_read_current(1);
+    script.companion_read_current(1);
+    script
+}
+
+/// Puts a beginning in place of a list's first events, so that its length stays.
+pub fn begin_with(beginning: &Script, events: &mut [u8]) {
+    for (event, first) in events.iter_mut().zip(&beginning.events) {
+        *event = *first;
+    }
+}
+
 /// "bits that the register map fixes at 0 are 0 (also in the calendar core)"
 pub fn within_stored_bits(calendar: Calendar) -> Calendar {
     let mut bytes = calendar.to_bytes();
@@ -78,8 +98,10 @@ pub fn any_calendar(source: &mut RandomSource) -> Calendar {
     within_stored_bits(calendar)
 }
 
-/// Any state within the limits; most often powered and running. Without main
-/// power both addresses are 0, as a loss of power leaves them.
+/// Any state within the limits and between transfers; most often powered and
+/// running. Both addresses may be any under every supply: 01's limits do not tie
+/// them to the power. Without main power they are sometimes 0, as a loss of power
+/// leaves them.
 pub fn any_state(source: &mut RandomSource) -> StartingState {
     let mut state = StartingState::fresh();
     for (register, stored) in state.registers.iter_mut().zip(STORED_BITS) {
@@ -98,7 +120,7 @@ pub fn any_state(source: &mut RandomSource) -> StartingState {
         }
     }
     state.power = source.pick(&[Power::On, Power::On, Power::On, Power::Backup, Power::Gone]);
-    if state.power == Power::On {
+    if state.power == Power::On || source.chance(70) {
         state.memory_address = source.next_number() as u16 & LAST_MEMORY_ADDRESS;
         state.companion_address = source.below(15) as u8;
     }

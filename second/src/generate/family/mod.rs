@@ -87,6 +87,7 @@ pub fn family_exhaustive(size: Size) -> Vec<FamilyList> {
     lists.extend(power_lists::power_sequences(size));
     lists.extend(power_lists::power_everywhere(size));
     lists.extend(power_lists::handed_in(size));
+    lists.extend(power_lists::handed_in_addresses(size));
     lists
 }
 

@@ -1,7 +1,9 @@
 // SPDX-License-Identifier: Apache-2.0
 //! Exhaustive families about supplies, ticks and edges.
 
-use super::fixed::{read_registers, settings, transactions, ABOUT_TO_CARRY, CC, RC};
+use super::fixed::{
+    read_current_bytes, read_registers, settings, transactions, ABOUT_TO_CARRY, CC, RC,
+};
 use super::{FamilyList, Lists};
 use crate::bus::Power;
 use crate::family::{Size, State};
@@ -50,6 +52,40 @@ pub fn power_everywhere(size: Size) -> Vec<FamilyList> {
         }
     }
     lists.lists
+}
+
+/// Every supply with addresses that no loss of power leaves, every two events out
+/// of 4 to 9; then power returns, and what is read shows both addresses.
+pub fn handed_in_addresses(size: Size) -> Vec<FamilyList> {
+    let mut lists = Lists::new(size, "family-handed-in-addresses", 47);
+    for (power, memory_address, companion_address) in supplies_with_addresses(size) {
+        for pair in 0..36_u8 {
+            let mut state = State::fresh();
+            state.power = power;
+            state.memory_address = memory_address;
+            state.companion_address = companion_address;
+            state.registers[4..8].copy_from_slice(&ABOUT_TO_CARRY);
+            let mut script = Script::new();
+            script.event(4 + pair / 6).event(4 + pair % 6);
+            script.power_returned();
+            read_current_bytes(&mut script);
+            let place = format!("{memory_address:04X}h, {companion_address:02X}h");
+            lists.add_in(state, format!("{power:?}, {place}, pair {pair}"), script);
+        }
+    }
+    lists.lists
+}
+
+fn supplies_with_addresses(size: Size) -> Vec<(Power, u16, u8)> {
+    let mut all = Vec::new();
+    for power in [Power::On, Power::Backup, Power::Gone] {
+        for memory_address in [0x0000, 0x0332, size.last_address()] {
+            for companion_address in [0x09, 0x0E, 0x18] {
+                all.push((power, memory_address, companion_address));
+            }
+        }
+    }
+    all
 }
 
 /// States handed in with every supply and every byte of 0Ch: edges, power back,

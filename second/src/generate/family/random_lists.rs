@@ -7,10 +7,11 @@ use super::random_parts::{
     any_counters, any_edges, any_family_state, any_memory_address, any_register, any_transactions,
 };
 use super::{list_by_chance, FamilyList};
-use crate::bus::{CLOCK_HIGH, CLOCK_LOW, START, STOP};
+use crate::bus::{Power, CLOCK_HIGH, CLOCK_LOW, START, STOP};
 use crate::family::{Size, State};
 use crate::generate::random_source::RandomSource;
 use crate::generate::script::Script;
+use crate::generate::starting_state::{begin_with, power_back};
 
 /// The number of events of one random list, about.
 const EVENTS_OF_A_LIST: usize = 800;
@@ -23,7 +24,7 @@ pub fn family_random(size: Size, seed: u64, approximate_events: usize) -> Vec<Fa
     let mut events = 0;
     while events < approximate_events {
         let number = lists.len();
-        let (family, script) = one_list(&mut source, size, number);
+        let (family, mut script) = one_list(&mut source, size, number);
         let name = format!("seed {seed}, list {number}");
         events += script.events.len();
         let state = if source.chance(50) {
@@ -31,6 +32,9 @@ pub fn family_random(size: Size, seed: u64, approximate_events: usize) -> Vec<Fa
         } else {
             any_family_state(&mut source, size)
         };
+        if state.power != Power::On && source.chance(50) {
+            begin_with(&power_back(&mut source), &mut script.events);
+        }
         lists.push(list_by_chance(
             &mut source,
             size,

@@ -10,8 +10,8 @@ use crate::generate::script::Script;
 use crate::generate::transactions::unknown_slave_byte;
 
 /// Any state within the limits and between transfers; most often powered, and
-/// more often unlocked than not. Without main power both addresses are those
-/// that a loss of power leaves.
+/// more often unlocked than not. Both addresses may be any under every supply;
+/// without main power they are sometimes those that a loss of power leaves.
 pub fn any_family_state(source: &mut RandomSource, size: Size) -> State {
     let mut state = State::fresh();
     for (register, stored) in state.registers.iter_mut().zip(STORED_BITS) {
@@ -26,7 +26,7 @@ pub fn any_family_state(source: &mut RandomSource, size: Size) -> State {
     }
     state.snapshot.copy_from_slice(&source.bytes(4));
     state.power = source.pick(&[Power::On, Power::On, Power::On, Power::Backup, Power::Gone]);
-    if state.power == Power::On {
+    if state.power == Power::On || source.chance(70) {
         state.memory_address = any_memory_address(source, size) & size.last_address();
         state.companion_address = any_register(source);
     }

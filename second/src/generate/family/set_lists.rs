@@ -8,6 +8,7 @@ use crate::family::{Member, Set, Size, State, SIZES};
 use crate::generate::fill_memory;
 use crate::generate::random_source::RandomSource;
 use crate::generate::script::Script;
+use crate::generate::starting_state::{begin_with, power_back};
 
 /// One device of a set; its memory is preset by `memory_seed`.
 #[derive(Clone, Copy, Debug, PartialEq, Eq)]
@@ -123,6 +124,7 @@ pub fn set_exhaustive() -> Vec<SetList> {
     lists.extend(edges_inside());
     lists.extend(power_inside());
     lists.extend(other_starts());
+    lists.extend(supplies());
     lists
 }
 
@@ -312,6 +314,43 @@ fn other_starts() -> Vec<SetList> {
     lists
 }
 
+/// Four devices handed in with every choice of supplies and with addresses that no
+/// loss of power leaves, and every two power events; then power returns, and what
+/// is read shows the addresses of each.
+fn supplies() -> Vec<SetList> {
+    let mut lists = Vec::new();
+    for number in 0..81_usize {
+        for pair in 0..9_u8 {
+            let mut script = Script::new();
+            script.event(5 + pair / 3).event(5 + pair % 3);
+            script.power_returned();
+            for selects in 0..4 {
+                let mut part = Script::new();
+                part.memory_read_current(1).companion_read_current(1);
+                script.events(&addressed_to(selects, &part).events);
+            }
+            lists.push(SetList {
+                family: "set-supplies",
+                name: format!("supplies {number}, pair {pair}"),
+                places: places_with_supplies(number),
+                events: script.events,
+            });
+        }
+    }
+    lists
+}
+
+/// Four devices whose supplies are the four base 3 figures of a number.
+fn places_with_supplies(number: usize) -> Vec<SetPlace> {
+    let mut places = fresh_places(&[1, 3, 0, 2], 0);
+    for (one, figure) in places.iter_mut().zip([1, 3, 9, 27]) {
+        one.state.power = [Power::On, Power::Backup, Power::Gone][number / figure % 3];
+        one.state.memory_address = 0x0332 + u16::from(one.selects);
+        one.state.companion_address = 0x0E + one.selects;
+    }
+    places
+}
+
 /// Random lists with about so many events in all: noise of all events of a set,
 /// and traffic to any selects with ticks, edges and power events between; half
 /// of them on devices in any state between transfers.
@@ -322,11 +361,16 @@ pub fn set_random(seed: u64, approximate_events: usize) -> Vec<SetList> {
     while events < approximate_events {
         let number = lists.len();
         let places = any_places(&mut source);
-        let (family, script) = match number % 3 {
+        let (family, mut script) = match number % 3 {
             0 => ("set-noise", noise(&mut source, places.len())),
             1 => ("set-traffic", traffic(&mut source, &places, 300)),
             _ => ("set-disturbed-traffic", traffic(&mut source, &places, 40)),
         };
+        let off = places.iter().find(|place| place.state.power != Power::On);
+        if let Some(place) = off.filter(|_| source.chance(50)) {
+            let beginning = addressed_to(place.selects, &power_back(&mut source));
+            begin_with(&beginning, &mut script.events);
+        }
         events += script.events.len();
         lists.push(SetList {
             family,
