@@ -29,9 +29,13 @@ pub const BUS_NOT_HELD: u8 = 7;
 /// 02, number 7: "a larger n is refused by number 8".
 pub const TOO_MANY_TICKS: u8 = 8;
 
-/// 02, number 12: "Equal selects ... are refused when the set is made". The
-/// request names no number; this program takes 9.
-pub const EQUAL_SELECTS: u8 = 9;
+/// 02, number 12: "up to four devices"; none, or more than four, are no set. The
+/// request names no numbers; 9 to 11 are the project's.
+pub const NOT_ONE_TO_FOUR_DEVICES: u8 = 9;
 
-/// 02, number 12: "a device not between transfers" is refused too, by 10.
-pub const NOT_BETWEEN_TRANSFERS: u8 = 10;
+/// 02, number 12: "Equal selects ... are refused when the set is made".
+pub const EQUAL_SELECTS: u8 = 10;
+
+/// 02, number 12: "a device not between transfers" is refused too, when the set is
+/// made; when a list is run on it, devices that stand as in no set that was made.
+pub const NOT_BETWEEN_TRANSFERS: u8 = 11;

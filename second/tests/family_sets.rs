@@ -3,7 +3,7 @@
 
 use second::bus::Power;
 use second::family::{Device, Member, Set, Size, State, SIZES};
-use second::generate::{self, addressed_to, Script, SetCall, SetCallPlace, SetList};
+use second::generate::{self, addressed_to, Script, SetList};
 use second::host;
 use std::collections::{BTreeMap, BTreeSet};
 
@@ -16,8 +16,6 @@ const EXHAUSTIVE_EVENTS: [(&str, usize, usize); 6] = [
     ("set-slave-bytes", 1536, 1_250_304),
     ("set-supplies", 729, 118_827),
 ];
-
-const SET_CALLS: usize = 1710;
 
 fn member(size: Size, selects: u8) -> Member {
     let mut memory = vec![0; size.bytes()];
@@ -310,100 +308,6 @@ fn others_are_left_as_they_were() {
                 assert_eq!(old.clone().run(&events), answers);
             }
         }
-    }
-}
-
-// ----- refusals -----
-
-/// The number that the making of a set is due, each asked of all devices.
-fn number_of_making(places: &[SetCallPlace]) -> u8 {
-    let selects: BTreeSet<u8> = places.iter().map(|one| one.selects).collect();
-    if places
-        .iter()
-        .any(|one| one.memory_bytes != one.size.bytes())
-    {
-        1
-    } else if places.iter().any(|one| one.state.companion_address < 9) {
-        2
-    } else if selects.len() < places.len() {
-        9
-    } else if places.iter().any(|one| one.state.transfer.clocks > 0) {
-        10
-    } else {
-        0
-    }
-}
-
-/// The number that a list is due on a set that was made.
-fn number_of_running(call: &SetCall) -> u8 {
-    let last = 7 + 2 * call.places.len();
-    if call.events.iter().any(|event| usize::from(*event) > last) {
-        3
-    } else if call.room < call.events.len() {
-        4
-    } else {
-        0
-    }
-}
-
-/// 1, 2, 9 and 10 when the set is made, then 3 and 4 when a list is run; a
-/// refusal changes nothing.
-#[test]
-fn refusals_in_order() {
-    let calls = generate::set_calls();
-    assert_eq!(calls.len(), SET_CALLS);
-    let mut given = BTreeSet::new();
-    for call in calls {
-        let making = number_of_making(&call.places);
-        given.insert(making);
-        let made = Set::make(call.members());
-        let Ok(mut set) = made else {
-            assert_eq!(made.err(), Some(making), "{}", call.name);
-            continue;
-        };
-        assert_eq!(making, 0, "{}", call.name);
-        let before = set.clone();
-        let running = number_of_running(&call);
-        given.insert(running);
-        match set.run(&call.events, call.room) {
-            Ok(answers) => assert_eq!((answers.len(), running), (call.events.len(), 0)),
-            Err(number) => {
-                assert_eq!(number, running, "{}", call.name);
-                assert!(set == before);
-            }
-        }
-    }
-    assert_eq!(given, BTreeSet::from([0, 1, 2, 3, 4, 9, 10]));
-}
-
-/// A set that was made may be inside a transfer when the next list comes.
-#[test]
-fn a_list_may_end_inside_a_transfer() {
-    let mut set = set_of(&[1, 2]);
-    host::begin(&mut set, 0xD3);
-    let members: Vec<Member> = set
-        .devices
-        .iter()
-        .map(|device| Member {
-            size: device.size,
-            selects: device.selects,
-            state: State::of(device),
-            memory: device.memory.clone(),
-        })
-        .collect();
-    assert_eq!(Set::make(members.clone()).err(), Some(10));
-    assert!(Set::of(members) == Ok(set));
-}
-
-/// Selects are two bits.
-#[test]
-fn selects_above_3_are_outside_the_limits() {
-    for selects in 4..=255_u8 {
-        let wrong = Member {
-            selects,
-            ..member(Size::Kilobits64, 0)
-        };
-        assert_eq!(Set::make(vec![wrong]).err(), Some(2));
     }
 }
 

@@ -17,5 +17,5 @@ pub mod state;
 pub use crate::size::{Size, SIZES};
 pub use device::{Device, EDGE_ON_CNT1, EDGE_ON_CNT2};
 pub use entries::{run, step, view, Answered, Stepped};
-pub use set::{Member, Set};
+pub use set::{run_set, Member, Set, SetAnswered};
 pub use state::State;
