@@ -3,12 +3,14 @@
 //! list is run on devices handed in.
 
 use second::bus::{Phase, Power};
-use second::family::{run_set, Member, Set, SetAnswered, Size, State};
+use second::family::{run_set, Device, Member, Set, SetAnswered, Size, State};
 use second::generate::{self, RandomSource, SetCall, SetCallPlace};
 use second::host;
 use std::collections::{BTreeMap, BTreeSet};
 
 const SET_CALLS: usize = 1710;
+
+const SET_RUNS: usize = 4960;
 
 /// A fresh device.
 fn member(selects: u8) -> Member {
@@ -159,7 +161,9 @@ fn refusals_in_order() {
 /// order; else the list is that of the set, event by event.
 #[test]
 fn runs_in_order() {
-    let calls = generate::set_calls();
+    let mut calls = generate::set_runs();
+    assert_eq!(calls.len(), SET_RUNS);
+    calls.extend(generate::set_calls());
     let mut given: BTreeMap<u8, usize> = BTreeMap::new();
     for call in calls {
         let due = number_of_running(&call);
@@ -174,7 +178,25 @@ fn runs_in_order() {
         }
     }
     let numbers: Vec<u8> = given.keys().copied().collect();
-    assert_eq!(numbers, [0, 1, 2, 3, 4, 10]);
+    assert_eq!(numbers, [0, 1, 2, 3, 4, 9, 10, 11]);
+    assert!(given.values().all(|count| *count > 30), "{given:?}");
+}
+
+/// The same devices when a set is made, or asked for without events.
+#[test]
+fn devices_handed_in_are_made_or_refused() {
+    for call in generate::set_runs() {
+        let making = number_of_making(&call.places);
+        let made = Set::make(call.members()).err();
+        assert_eq!(made.unwrap_or(0), making, "{}", call.name);
+        let standing = first_number(&[
+            number_of_devices(&call.places),
+            number_of_selects(&call.places),
+            number_of_standing(&call.places),
+        ]);
+        let of = Set::of(call.members()).err();
+        assert_eq!(of.unwrap_or(0), standing, "{}", call.name);
+    }
 }
 
 /// "up to four devices": 9 comes before every other number.
@@ -234,6 +256,28 @@ fn a_set_that_was_made_is_never_refused() {
         }
     }
     assert!(asked.iter().all(|count| *count > 30), "{asked:?}");
+}
+
+/// Nor is one that was handed in and accepted once; no two of its devices ever pull
+/// at once.
+#[test]
+fn a_set_that_was_accepted_is_never_refused() {
+    for call in generate::set_runs() {
+        let Ok(mut set) = Set::of(call.members()) else {
+            continue;
+        };
+        for event in call.events.iter().filter(|event| **event < 10) {
+            assert!(pulling(&set.devices, *event) <= 1, "{}", call.name);
+            set.event(*event);
+            assert!(Set::of(members_of(&set)).is_ok(), "{}", call.name);
+        }
+    }
+}
+
+/// How many devices pull the line of an event low that the master leaves high.
+fn pulling(devices: &[Device], event: u8) -> usize {
+    let is_pulled = |device: &&Device| event == 3 && (*device).clone().event(event) == 0;
+    devices.iter().filter(is_pulled).count()
 }
 
 /// A set that was made may be inside a transfer when the next list comes.

@@ -16,7 +16,8 @@
 //!   the larger family, for a chosen size; [`family_calls`] and [`family_views`]:
 //!   3,129 calls and 5,184 views a size, on and over the edges of each refusal.
 //! * [`set_exhaustive`] and [`set_random`]: lists for one to four parts on one line;
-//!   [`set_calls`]: 1,710 sets made or refused, and lists run on them or refused.
+//!   [`set_calls`]: 1,710 sets made or refused, and lists run on them or refused;
+//!   [`set_runs`]: 4,960 lists run on devices handed in that may be inside transfers.
 //! * [`trim_edges`]: 23,040 errors and settings at the edges of what is allowed.
 //!
 //! What [`exhaustive`] holds; `tests/generators.rs` fails when the numbers are
@@ -145,7 +146,7 @@ pub use exhaustive_lists::{exhaustive, for_every_prefix};
 pub use family::{
     addressed_to, any_family_state, count_family_events, count_set_events, family_calls,
     family_exhaustive, family_random, family_structured, family_views, select_arrangements,
-    set_calls, set_exhaustive, set_random, FamilyCall, FamilyList, FamilyView, SetCall,
+    set_calls, set_exhaustive, set_random, set_runs, FamilyCall, FamilyList, FamilyView, SetCall,
     SetCallPlace, SetList, SetPlace,
 };
 pub use handed_in_lists::{count_handed_in_events, handed_in, handed_in_random, HandedInList};

@@ -13,6 +13,7 @@ mod random_parts;
 mod register_lists;
 mod set_calls;
 mod set_lists;
+mod set_runs;
 mod structured_lists;
 
 pub use calls::{family_calls, family_views, FamilyCall, FamilyView};
@@ -23,6 +24,7 @@ pub use set_lists::{
     addressed_to, count_set_events, select_arrangements, set_exhaustive, set_random, SetList,
     SetPlace,
 };
+pub use set_runs::set_runs;
 pub use structured_lists::family_structured;
 
 use super::script::Script;

@@ -52,7 +52,7 @@ pub fn set_calls() -> Vec<SetCall> {
 }
 
 /// A fresh device; those with odd selects have 256Kb.
-fn fresh_place(selects: u8) -> SetCallPlace {
+pub fn fresh_place(selects: u8) -> SetCallPlace {
     let size = SIZES[usize::from(selects % 2)];
     SetCallPlace {
         size,
@@ -96,7 +96,7 @@ fn inside_a_transfer() -> Transfer {
 
 /// The faults of one device: a memory too short, a companion address outside, the
 /// selects of another, a transfer under way.
-fn put_fault(places: &mut [SetCallPlace], place: usize, fault: usize) {
+pub fn put_fault(places: &mut [SetCallPlace], place: usize, fault: usize) {
     match fault {
         0 => places[place].memory_bytes -= 1,
         1 => places[place].state.companion_address = 0x08,
