@@ -237,6 +237,19 @@ fn devices_in_each_others_way_are_refused_when_a_list_is_run() {
     }
 }
 
+/// Bits past the clocks done were not received, whatever a state holds there.
+#[test]
+fn bits_that_are_still_to_come_are_not_compared() {
+    let mut set = set_of(&[0, 1]);
+    set.run(&[0, 3, 2, 3], 4).expect("accepted");
+    for place in 0..8 {
+        let mut members = members_of(&set);
+        members[1].state.transfer.received_bits[place] ^= true;
+        let expected = if place < 3 { Some(11) } else { None };
+        assert_eq!(run_set(members, &[], 0).err(), expected, "bit {place}");
+    }
+}
+
 /// A set that was made and then given events is never refused, with none to four
 /// of its devices inside transfers.
 #[test]
