@@ -9,6 +9,8 @@
 //! * [`random`]: noise and plausible traffic by weights.
 //! * [`handed_in`] and [`handed_in_random`]: lists that begin in a state handed
 //!   in, so with an invalid core too, which no events bring about.
+//! * [`handed_in_any_phase`], [`family_any_phase`] and [`set_any_phase`]: random lists
+//!   that begin in a state handed in of any phase, so inside transfers too.
 //! * [`ticks_told`]: short lists of ticks over every midnight of the century and
 //!   the ends of minutes and hours, to ask each tick what rolled over.
 //! * [`lamps`]: lists that read the eight lamps of 02, number 11, in every way.
@@ -117,6 +119,7 @@
 //! | set-supplies | 729 | 118,827 | every choice of supplies, addresses that no loss leaves |
 //! | all | 5,113 | 5,005,915 | |
 
+mod any_phase_lists;
 mod exhaustive_bad_dates;
 mod exhaustive_bus;
 mod exhaustive_calendar;
@@ -142,12 +145,14 @@ mod ticks_told_lists;
 mod transactions;
 mod trim_edges;
 
+pub use any_phase_lists::{any_state_in_any_phase, handed_in_any_phase, AnyPhaseList};
 pub use exhaustive_lists::{exhaustive, for_every_prefix};
 pub use family::{
-    addressed_to, any_family_state, count_family_events, count_set_events, family_calls,
-    family_exhaustive, family_random, family_structured, family_views, select_arrangements,
-    set_calls, set_exhaustive, set_random, set_runs, FamilyCall, FamilyList, FamilyView, SetCall,
-    SetCallPlace, SetList, SetPlace,
+    addressed_to, any_family_state, any_family_state_in_any_phase, count_family_events,
+    count_set_events, family_any_phase, family_calls, family_exhaustive, family_random,
+    family_structured, family_views, select_arrangements, set_any_phase, set_calls, set_exhaustive,
+    set_random, set_runs, FamilyCall, FamilyList, FamilyView, SetCall, SetCallPlace, SetList,
+    SetPlace,
 };
 pub use handed_in_lists::{count_handed_in_events, handed_in, handed_in_random, HandedInList};
 pub use lamp_lists::lamps;

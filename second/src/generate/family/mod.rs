@@ -2,6 +2,7 @@
 //! Lists for the larger family, for a chosen size; see [`generate`](super) for
 //! their numbers.
 
+mod any_phase_lists;
 mod bus_lists;
 mod calls;
 mod counter_lists;
@@ -16,6 +17,7 @@ mod set_lists;
 mod set_runs;
 mod structured_lists;
 
+pub use any_phase_lists::{any_family_state_in_any_phase, family_any_phase, set_any_phase};
 pub use calls::{family_calls, family_views, FamilyCall, FamilyView};
 pub use random_lists::family_random;
 pub use random_parts::any_family_state;

@@ -50,7 +50,7 @@ impl SetList {
 
     /// The set that the list is to be run on.
     pub fn set(&self) -> Set {
-        Set::make(self.members()).expect("nothing to refuse")
+        Set::of(self.members()).expect("nothing to refuse")
     }
 }
 
