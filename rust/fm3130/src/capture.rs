@@ -35,7 +35,7 @@ use std::fmt;
 use crate::archive;
 use crate::device::Device;
 use crate::event;
-use crate::MEMORY_BYTES;
+use crate::{MEMORY_BYTES, UNANSWERED};
 
 /// The bytes of the longest capture, 60 KiB.
 pub const MOST_BYTES: usize = 61_440;
@@ -137,8 +137,8 @@ fn differs(file: &[u8], place: usize) -> Verdict {
         .and_then(|answers| answers.last().copied());
     Verdict::Differs {
         place,
-        recorded: capture.answers.get(place).copied().unwrap_or_default(),
-        right: right.unwrap_or_default(),
+        recorded: capture.answers.get(place).copied().unwrap_or(UNANSWERED),
+        right: right.unwrap_or(UNANSWERED),
     }
 }
 
@@ -371,5 +371,25 @@ impl fmt::Display for Fault {
                 "events and answers are not equally many (the other is entry {place})"
             ),
         }
+    }
+}
+
+#[cfg(test)]
+mod tests {
+    use super::*;
+
+    /// The judge names no answer of such a file; were it to, nothing would be said to pull the line.
+    #[test]
+    fn an_answer_that_nobody_gave_is_high() {
+        let verdict = differs(&[], 0);
+        let (recorded, right) = (UNANSWERED, UNANSWERED);
+        assert_eq!(
+            verdict,
+            Verdict::Differs {
+                place: 0,
+                recorded,
+                right
+            }
+        );
     }
 }

@@ -85,6 +85,14 @@ pub const IMAGE_BYTES: usize = 64;
 /// The length of the memory.
 pub const MEMORY_BYTES: usize = 8192;
 
+/// What a buffer of answers holds before it is written: the line high, which acknowledges nothing. A
+/// refused event has this answer too (01).
+///
+/// ```
+/// assert!(fm3130::Answer(fm3130::UNANSWERED).line_is_high());
+/// ```
+pub const UNANSWERED: u8 = 1;
+
 /// The most ticks that [`catch_up`] does in one call, those of a leap year.
 pub const MOST_TICKS: u64 = 31_622_400;
 

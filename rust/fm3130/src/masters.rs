@@ -36,6 +36,7 @@ use std::sync::{Arc, Mutex, MutexGuard, PoisonError};
 
 use crate::device::Device;
 use crate::refusal::Refusal;
+use crate::UNANSWERED;
 
 /// The length of what says who holds the bus.
 pub const BUS_BYTES: usize = 1;
@@ -173,7 +174,7 @@ impl Handle {
     /// # Ok::<(), Refusal>(())
     /// ```
     pub fn call(&self, events: &[u8]) -> Result<Vec<u8>, Refusal> {
-        let mut answers = vec![0; events.len()];
+        let mut answers = vec![UNANSWERED; events.len()];
         let shared = &mut *self.lock();
         let (image, memory) = shared.device.parts_mut();
         let master = u64::from(self.master.number());

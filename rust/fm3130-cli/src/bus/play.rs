@@ -3,7 +3,7 @@
 
 use std::fmt;
 
-use fm3130::{event, Answer, Lamps, Pin, MOST_TICKS};
+use fm3130::{event, Answer, Lamps, Pin, MOST_TICKS, UNANSWERED};
 
 use super::moment::{Moment, TickRun};
 use super::sleep;
@@ -78,7 +78,7 @@ pub struct Recorded {
 pub fn play(player: &mut dyn Player, source: &mut dyn Source, outputs: &mut Outputs) -> Outcome {
     let mut progress = Progress::of(source.total());
     let mut chunk = Vec::with_capacity(CHUNK);
-    let mut answers = vec![0; CHUNK];
+    let mut answers = vec![UNANSWERED; CHUNK];
     loop {
         let ticks = if outputs.want_each_event() {
             0
