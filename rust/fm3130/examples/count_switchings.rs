@@ -11,17 +11,17 @@ fn main() -> Result<(), Refusal> {
     device.run(&[event::EDGE_2; 3])?;
 
     // RC takes a snapshot; lamp 1 is switched again before it is read.
-    device.write_registers(registers::COUNTING, &[registers::RC]);
+    device.write_registers(registers::COUNTING, &[registers::RC])?;
     device.step(event::EDGE_1)?;
-    let frozen = device.read_registers(registers::COUNTER_1_LOW, 4);
+    let frozen = device.read_registers(registers::COUNTER_1_LOW, 4)?;
     println!("frozen: {frozen:?}");
     println!("now: {}", device.counts());
 
     // A serial number, locked: later writes are acknowledged and not stored.
-    device.write_registers(registers::SERIAL, b"LAMP0042");
-    device.write_registers(registers::CONTROL, &[registers::SNL]);
-    let acknowledged = device.write_registers(registers::SERIAL, b"FORGED");
-    let serial = device.read_registers(registers::SERIAL, 8);
+    device.write_registers(registers::SERIAL, b"LAMP0042")?;
+    device.write_registers(registers::CONTROL, &[registers::SNL])?;
+    let acknowledged = device.write_registers(registers::SERIAL, b"FORGED")?;
+    let serial = device.read_registers(registers::SERIAL, 8)?;
     println!("serial number: {}", String::from_utf8_lossy(&serial));
     println!("acknowledged: {}", acknowledged.iter().all(|flag| *flag));
     Ok(())

@@ -9,7 +9,7 @@ use fm3130::{selector, Phase, Power, IMAGE_BYTES};
 
 /// The registers at addresses 0Dh to 10h, over the bus.
 fn counters<Chosen: ChosenSize>(device: &mut Part<Chosen>) -> Vec<u8> {
-    device.read_registers(registers::COUNTER_1_LOW, 4)
+    device.read_registers(registers::COUNTER_1_LOW, 4).unwrap()
 }
 
 #[test]
@@ -17,7 +17,9 @@ fn counters_have_16_bits_and_roll_by_themselves() {
     let mut device = Fm3164::fresh();
     device.run(&[event::EDGE_1; 256]).unwrap();
     assert_eq!(counters(&mut device), [0x00, 0x01, 0x00, 0x00]);
-    device.write_registers(registers::COUNTER_1_LOW, &[0xFF, 0xFF, 0xFE, 0xFF]);
+    device
+        .write_registers(registers::COUNTER_1_LOW, &[0xFF, 0xFF, 0xFE, 0xFF])
+        .unwrap();
     device.run(&[event::EDGE_1, event::EDGE_2]).unwrap();
     assert_eq!(counters(&mut device), [0x00, 0x00, 0xFF, 0xFF]);
     device.step(event::EDGE_2).unwrap();
@@ -27,12 +29,18 @@ fn counters_have_16_bits_and_roll_by_themselves() {
 #[test]
 fn the_pair_has_32_bits_and_listens_to_cnt1_alone() {
     let mut device = Fm31256::fresh();
-    device.write_registers(registers::COUNTING, &[registers::CC]);
+    device
+        .write_registers(registers::COUNTING, &[registers::CC])
+        .unwrap();
     assert!(device.state().is_joined());
-    device.write_registers(registers::COUNTER_1_LOW, &[0xFF, 0xFF, 0x00, 0x00]);
+    device
+        .write_registers(registers::COUNTER_1_LOW, &[0xFF, 0xFF, 0x00, 0x00])
+        .unwrap();
     device.run(&[event::EDGE_2, event::EDGE_1]).unwrap();
     assert_eq!(counters(&mut device), [0x00, 0x00, 0x01, 0x00]);
-    device.write_registers(registers::COUNTER_1_LOW, &[0xFF; 4]);
+    device
+        .write_registers(registers::COUNTER_1_LOW, &[0xFF; 4])
+        .unwrap();
     assert_eq!(device.counts().pair(), 0xFFFF_FFFF);
     device.step(event::EDGE_2).unwrap();
     assert_eq!(device.counts().pair(), 0xFFFF_FFFF);
@@ -44,10 +52,12 @@ fn the_pair_has_32_bits_and_listens_to_cnt1_alone() {
 fn frozen_reads_end_with_10h() {
     let mut device = Fm3164::fresh();
     device.run(&[event::EDGE_1, event::EDGE_2]).unwrap();
-    device.write_registers(registers::COUNTING, &[registers::RC]);
+    device
+        .write_registers(registers::COUNTING, &[registers::RC])
+        .unwrap();
     device.run(&[event::EDGE_1; 5]).unwrap();
     assert_eq!(
-        device.read_registers(registers::COUNTER_1_LOW, 3),
+        device.read_registers(registers::COUNTER_1_LOW, 3).unwrap(),
         [1, 0, 1]
     );
     assert!(device.state().is_frozen());
@@ -59,11 +69,13 @@ fn frozen_reads_end_with_10h() {
 #[test]
 fn a_locked_serial_number_outlives_everything() {
     let mut device = Fm3164::fresh();
-    device.write_registers(registers::SERIAL, b"LAMP0042");
+    device
+        .write_registers(registers::SERIAL, b"LAMP0042")
+        .unwrap();
     // The byte that locks is followed by others up to the serial number: those are its own too late.
     let bytes = [0x80, 0x00, 0x11, 0x22, 0x33, 0x44, 0x55, 0x66];
     assert_eq!(
-        device.write_registers(registers::CONTROL, &bytes),
+        device.write_registers(registers::CONTROL, &bytes).unwrap(),
         [true; 8]
     );
     assert_eq!(device.counts().0, [0x11, 0x22, 0x33, 0x44]);
@@ -73,8 +85,8 @@ fn a_locked_serial_number_outlives_everything() {
         event::POWER_RETURNED,
     ];
     device.run(&losses).unwrap();
-    device.write_registers(registers::CONTROL, &[0x1F]);
-    device.write_registers(registers::SERIAL, &[0; 8]);
+    device.write_registers(registers::CONTROL, &[0x1F]).unwrap();
+    device.write_registers(registers::SERIAL, &[0; 8]).unwrap();
     let state = device.state();
     assert_eq!(&state.serial(), b"LAMP0042");
     assert!(state.is_locked());
@@ -89,18 +101,18 @@ fn memory_ends_at<Chosen: ChosenSize>() {
     let last = u16::try_from(size - 1).unwrap();
     let mut device = Part::<Chosen>::fresh();
     // The bits above the size are ignored, and the last address is followed by the first.
-    assert_eq!(device.write_memory(0xFFFF, &[1, 2]), [true, true]);
+    assert_eq!(device.write_memory(0xFFFF, &[1, 2]).unwrap(), [true, true]);
     assert_eq!((device.memory()[size - 1], device.memory()[0]), (1, 2));
-    assert_eq!(device.read_memory(last, 3), [1, 2, 0]);
+    assert_eq!(device.read_memory(last, 3).unwrap(), [1, 2, 0]);
     assert_eq!(device.state().memory_address, 2);
     for (bits, below) in [(0x08, size / 4), (0x10, size / 2), (0x18, size)] {
-        device.write_registers(registers::CONTROL, &[bits]);
+        device.write_registers(registers::CONTROL, &[bits]).unwrap();
         let limit = below as u16;
-        let told = device.write_memory(limit.wrapping_sub(1), &[9]);
+        let told = device.write_memory(limit.wrapping_sub(1), &[9]).unwrap();
         assert_eq!(told, [false], "{bits:02X}h protects {:04X}h", below - 1);
         // A refused byte steps the address on, and all after it are refused with it.
         assert_eq!(usize::from(device.state().memory_address), below % size);
-        let told = device.write_memory(limit % size as u16, &[9]);
+        let told = device.write_memory(limit % size as u16, &[9]).unwrap();
         assert_eq!(told, [below < size], "{bits:02X}h, {below:04X}h");
     }
     assert_eq!(device.memory().len(), size);
@@ -117,7 +129,10 @@ fn addresses_outside_the_registers_are_not_acknowledged() {
     let mut device = Fm3164::fresh();
     for address in 0..=0xFF {
         let exists = (registers::FIRST..=registers::LAST).contains(&address);
-        assert_eq!(device.read_registers(address, 1).len(), usize::from(exists));
+        assert_eq!(
+            device.read_registers(address, 1).unwrap().len(),
+            usize::from(exists)
+        );
         assert_eq!(registers::name(address).is_some(), exists);
         assert_eq!(device.phase(), Phase::Idle);
     }
@@ -125,7 +140,9 @@ fn addresses_outside_the_registers_are_not_acknowledged() {
     let mut expected = device.registers().to_vec();
     expected.push(expected[0]);
     assert_eq!(
-        device.read_registers(registers::FIRST, REGISTER_COUNT + 1),
+        device
+            .read_registers(registers::FIRST, REGISTER_COUNT + 1)
+            .unwrap(),
         expected
     );
     assert_eq!(device.state().companion_address, registers::FIRST + 1);
@@ -189,10 +206,10 @@ fn refusals_come_in_the_order_of_their_numbers_and_write_nothing() {
 #[test]
 fn an_image_knows_no_size_but_its_address_does() {
     let mut device = Fm31256::fresh();
-    device.write_memory(0x1FFE, &[1]);
+    device.write_memory(0x1FFE, &[1]).unwrap();
     let small = &device.memory()[..Size::Kb64.bytes()];
     assert!(Fm3164::from_parts(device.image(), small).is_ok());
-    device.write_memory(0x1FFF, &[1]);
+    device.write_memory(0x1FFF, &[1]).unwrap();
     assert_eq!(device.state().memory_address, 0x2000);
     let small = &device.memory()[..Size::Kb64.bytes()];
     let refused = Fm3164::from_parts(device.image(), small);

@@ -68,14 +68,18 @@ fn a_transaction_reaches_the_device_it_names_alone() {
         let place = set.place_of(select).unwrap();
         let before = others(&set, place);
         let byte = 0x50 + select.bits();
-        assert_eq!(set.write_memory(select, 0x0123, &[byte, !byte]), [true; 2]);
         assert_eq!(
-            set.write_registers(select, registers::SERIAL, &[byte]),
+            set.write_memory(select, 0x0123, &[byte, !byte]).unwrap(),
+            [true; 2]
+        );
+        assert_eq!(
+            set.write_registers(select, registers::SERIAL, &[byte])
+                .unwrap(),
             [true]
         );
-        assert_eq!(set.read_memory(select, 0x0123, 2), [byte, !byte]);
+        assert_eq!(set.read_memory(select, 0x0123, 2).unwrap(), [byte, !byte]);
         assert_eq!(
-            set.read_registers(select, registers::SERIAL, 2),
+            set.read_registers(select, registers::SERIAL, 2).unwrap(),
             [byte, 0x00]
         );
         assert_eq!(others(&set, place), before);
@@ -90,8 +94,8 @@ fn select_bits_that_nobody_has_are_not_acknowledged() {
     let mut set = Set::new([Member::fresh(Size::Kb64, Select::ONE)]).unwrap();
     let before = set.clone();
     for select in [Select::ZERO, Select::TWO, Select::THREE] {
-        assert_eq!(set.write_memory(select, 0, &[1]), [false]);
-        assert_eq!(set.read_registers(select, registers::FIRST, 1), []);
+        assert_eq!(set.write_memory(select, 0, &[1]).unwrap(), [false]);
+        assert_eq!(set.read_registers(select, registers::FIRST, 1).unwrap(), []);
         assert_eq!(set.place_of(select), None);
     }
     assert_eq!(set, before);
@@ -101,8 +105,8 @@ fn select_bits_that_nobody_has_are_not_acknowledged() {
 #[test]
 fn sizes_wrap_each_by_itself() {
     let mut set = four();
-    set.write_memory(Select::THREE, 0x1FFF, &[1, 2]);
-    set.write_memory(Select::TWO, 0x1FFF, &[3, 4]);
+    set.write_memory(Select::THREE, 0x1FFF, &[1, 2]).unwrap();
+    set.write_memory(Select::TWO, 0x1FFF, &[3, 4]).unwrap();
     let small = set.device(2).unwrap();
     assert_eq!((small.memory()[0x1FFF], small.memory()[0x0000]), (1, 2));
     let large = set.device(0).unwrap();
@@ -206,7 +210,8 @@ fn a_refused_list_changes_nothing() {
 #[test]
 fn a_set_may_be_taken_apart_and_made_again() {
     let mut set = four();
-    set.device_mut(3).unwrap().memory_mut()[0] = 0x77;
+    set.memory_mut(3).unwrap()[0] = 0x77;
+    assert_eq!(set.memory_mut(4), None);
     set.step(edge_1(3)).unwrap();
     let again = Set::new(set.clone().into_members());
     assert_eq!(again.as_ref(), Ok(&set));

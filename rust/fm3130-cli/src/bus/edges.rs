@@ -144,12 +144,16 @@ mod tests {
         let mut device = Fm3164::fresh();
         let words = said(&device, event::EDGE_1, 1);
         assert_eq!(words, "1 edge on CNT1: counter 1 0 -> 1 (0001h)");
-        device.write_registers(registers::COUNTER_1_LOW, &[0xFE, 0xFF, 0xFF, 0xFF]);
+        device
+            .write_registers(registers::COUNTER_1_LOW, &[0xFE, 0xFF, 0xFF, 0xFF])
+            .unwrap();
         let words = said(&device, event::EDGE_1, 3);
         assert_eq!(words, "3 edges on CNT1: counter 1 65534 -> 1 (0001h)");
         let words = said(&device, event::EDGE_2, 1);
         assert_eq!(words, "1 edge on CNT2: counter 2 65535 -> 0 (0000h)");
-        device.write_registers(registers::COUNTING, &[registers::CC]);
+        device
+            .write_registers(registers::COUNTING, &[registers::CC])
+            .unwrap();
         let words = said(&device, event::EDGE_1, 2);
         assert_eq!(
             words,

@@ -4,8 +4,7 @@
 use super::refusal::Refusal;
 use super::size::Size;
 use super::REGISTER_COUNT;
-use crate::archive;
-use crate::selector;
+use crate::{archive, selector, IMAGE_BYTES};
 
 /// Writes the image of the fresh state, which is the same for both sizes: power on, no transfer, the
 /// memory's address 0000h, the companion's 09h, POR and LB 1.
@@ -24,6 +23,13 @@ use crate::selector;
 /// ```
 pub fn fresh(image: &mut [u8]) -> Result<(), Refusal> {
     archive::family_fresh(image)
+}
+
+/// The image of the fresh state.
+pub(super) fn fresh_image() -> [u8; IMAGE_BYTES] {
+    let mut image = [0; IMAGE_BYTES];
+    // 64 bytes are not refused. Were they, zeros would stay, which every entry refuses by number 2.
+    fresh(&mut image).map_or([0; IMAGE_BYTES], |()| image)
 }
 
 /// Runs a list of events on a state image and a memory of a size; the answers go to the first bytes

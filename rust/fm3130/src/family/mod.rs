@@ -22,9 +22,9 @@
 //! assert_eq!((device.counts().one(), device.counts().two()), (2, 1));
 //!
 //! // Frozen reads: RC takes a snapshot, and a count in between does not show.
-//! device.write_registers(registers::COUNTING, &[registers::RC]);
+//! device.write_registers(registers::COUNTING, &[registers::RC])?;
 //! device.step(event::EDGE_1)?;
-//! assert_eq!(device.read_registers(registers::COUNTER_1_LOW, 4), [2, 0, 1, 0]);
+//! assert_eq!(device.read_registers(registers::COUNTER_1_LOW, 4)?, [2, 0, 1, 0]);
 //! assert_eq!(device.counts().one(), 3);
 //! # Ok::<(), fm3130::family::Refusal>(())
 //! ```

@@ -10,7 +10,7 @@ use super::state::{Counts, State};
 use super::transaction::{self, COMPANION, MEMORY};
 use super::{entries, REGISTER_COUNT};
 use crate::state::{Phase, Power};
-use crate::IMAGE_BYTES;
+use crate::{IMAGE_BYTES, UNANSWERED};
 
 /// The 64Kb part: 8,192 bytes of memory.
 pub type Fm3164 = Part<Kb64>;
@@ -43,11 +43,8 @@ impl<Chosen: ChosenSize> Part<Chosen> {
     /// assert_eq!(Fm31256::fresh().memory().len(), 32_768);
     /// ```
     pub fn fresh() -> Part<Chosen> {
-        let mut image = [0; IMAGE_BYTES];
-        // Number 0 for every image of 64 bytes, so there is nothing to hand on.
-        let _ = entries::fresh(&mut image);
         Part {
-            image,
+            image: entries::fresh_image(),
             memory: vec![0; Chosen::SIZE.bytes()],
             size: PhantomData,
         }
@@ -99,7 +96,7 @@ impl<Chosen: ChosenSize> Part<Chosen> {
     /// # Ok::<(), fm3130::family::Refusal>(())
     /// ```
     pub fn run(&mut self, events: &[u8]) -> Result<Vec<u8>, Refusal> {
-        let mut answers = vec![0; events.len()];
+        let mut answers = vec![UNANSWERED; events.len()];
         self.run_into(events, &mut answers)?;
         Ok(answers)
     }
@@ -140,7 +137,7 @@ impl<Chosen: ChosenSize> Part<Chosen> {
     /// # Ok::<(), fm3130::family::Refusal>(())
     /// ```
     pub fn step(&mut self, event: u8) -> Result<u8, Refusal> {
-        let mut told = [0];
+        let mut told = [UNANSWERED];
         let (image, memory) = (&mut self.image, &mut self.memory[..]);
         entries::step(Chosen::SIZE, image, memory, event, &mut told)?;
         Ok(told[0])
@@ -152,77 +149,81 @@ impl<Chosen: ChosenSize> Part<Chosen> {
     /// None is acknowledged if the address is outside 09h to 18h, or without power. A byte for a locked
     /// serial number is acknowledged and not stored.
     ///
+    /// # Errors
+    ///
+    /// That of [`Part::run`], should it refuse the transaction's events; then nothing was done.
+    ///
     /// ```
     /// use fm3130::family::{registers, Fm3164};
     ///
     /// let mut device = Fm3164::fresh();
-    /// assert_eq!(device.write_registers(registers::SERIAL, &[1, 2, 3]), [true; 3]);
+    /// assert_eq!(device.write_registers(registers::SERIAL, &[1, 2, 3])?, [true; 3]);
     /// assert_eq!(device.state().serial(), [1, 2, 3, 0, 0, 0, 0, 0]);
-    /// assert_eq!(device.write_registers(0x08, &[1]), [false]);
+    /// assert_eq!(device.write_registers(0x08, &[1])?, [false]);
+    /// # Ok::<(), fm3130::family::Refusal>(())
     /// ```
-    pub fn write_registers(&mut self, address: u8, bytes: &[u8]) -> Vec<bool> {
-        transaction::write(&[COMPANION, address], bytes, |events| {
-            self.answers_to(events)
-        })
+    pub fn write_registers(&mut self, address: u8, bytes: &[u8]) -> Result<Vec<bool>, Refusal> {
+        transaction::write(&[COMPANION, address], bytes, |events| self.run(events))
     }
 
     /// Reads so many registers over the bus, from an address on and over 18h to 09h: one whole
     /// transaction. Returns the bytes; none if the device did not acknowledge its address.
     ///
+    /// # Errors
+    ///
+    /// That of [`Part::run`], should it refuse the transaction's events; then nothing was done.
+    ///
     /// ```
     /// use fm3130::family::{registers, Fm3164};
     ///
     /// let mut device = Fm3164::fresh();
-    /// assert_eq!(device.read_registers(registers::LAST, 2), [0x00, 0x60]);
-    /// assert_eq!(device.read_registers(0x19, 2), []);
+    /// assert_eq!(device.read_registers(registers::LAST, 2)?, [0x00, 0x60]);
+    /// assert_eq!(device.read_registers(0x19, 2)?, []);
+    /// # Ok::<(), fm3130::family::Refusal>(())
     /// ```
-    pub fn read_registers(&mut self, address: u8, count: usize) -> Vec<u8> {
-        transaction::read(&[COMPANION, address], count, |events| {
-            self.answers_to(events)
-        })
+    pub fn read_registers(&mut self, address: u8, count: usize) -> Result<Vec<u8>, Refusal> {
+        transaction::read(&[COMPANION, address], count, |events| self.run(events))
     }
 
     /// Writes bytes to the memory over the bus, from an address on and over its end to 0000h: one whole
     /// transaction. Returns for each byte whether the device acknowledged it. Address bits above the
     /// size are ignored.
     ///
+    /// # Errors
+    ///
+    /// That of [`Part::run`], should it refuse the transaction's events; then nothing was done.
+    ///
     /// ```
     /// use fm3130::family::Fm31256;
     ///
     /// let mut device = Fm31256::fresh();
-    /// assert_eq!(device.write_memory(0x7FFF, &[0x5A, 0xC3]), [true, true]);
+    /// assert_eq!(device.write_memory(0x7FFF, &[0x5A, 0xC3])?, [true, true]);
     /// assert_eq!((device.memory()[0x7FFF], device.memory()[0x0000]), (0x5A, 0xC3));
+    /// # Ok::<(), fm3130::family::Refusal>(())
     /// ```
-    pub fn write_memory(&mut self, address: u16, bytes: &[u8]) -> Vec<bool> {
+    pub fn write_memory(&mut self, address: u16, bytes: &[u8]) -> Result<Vec<bool>, Refusal> {
         let [high, low] = address.to_be_bytes();
-        transaction::write(&[MEMORY, high, low], bytes, |events| {
-            self.answers_to(events)
-        })
+        transaction::write(&[MEMORY, high, low], bytes, |events| self.run(events))
     }
 
     /// Reads so many bytes of the memory over the bus, from an address on: one whole transaction.
     /// Returns the bytes; none if the device did not acknowledge.
     ///
+    /// # Errors
+    ///
+    /// That of [`Part::run`], should it refuse the transaction's events; then nothing was done.
+    ///
     /// ```
     /// use fm3130::family::Fm3164;
     ///
     /// let mut device = Fm3164::fresh();
-    /// device.write_memory(0x1FFF, &[0x5A, 0xC3]);
-    /// assert_eq!(device.read_memory(0xFFFF, 2), [0x5A, 0xC3]);
+    /// device.write_memory(0x1FFF, &[0x5A, 0xC3])?;
+    /// assert_eq!(device.read_memory(0xFFFF, 2)?, [0x5A, 0xC3]);
+    /// # Ok::<(), fm3130::family::Refusal>(())
     /// ```
-    pub fn read_memory(&mut self, address: u16, count: usize) -> Vec<u8> {
+    pub fn read_memory(&mut self, address: u16, count: usize) -> Result<Vec<u8>, Refusal> {
         let [high, low] = address.to_be_bytes();
-        transaction::read(&[MEMORY, high, low], count, |events| {
-            self.answers_to(events)
-        })
-    }
-
-    /// The answers to a master's events, which are known, so that the list run takes them.
-    fn answers_to(&mut self, events: &[u8]) -> Vec<u8> {
-        let mut answers = vec![0; events.len()];
-        // Number 0: the image is a state's, and every event of a master's transaction is below 10.
-        let _ = self.run_into(events, &mut answers);
-        answers
+        transaction::read(&[MEMORY, high, low], count, |events| self.run(events))
     }
 
     /// The state image: its first 16 bytes are the registers.
@@ -355,5 +356,36 @@ impl<Chosen: ChosenSize> fmt::Debug for Part<Chosen> {
             })
             .field("state", &self.state())
             .finish_non_exhaustive()
+    }
+}
+
+#[cfg(test)]
+mod tests {
+    use super::*;
+
+    /// A device that no safe code makes: its image is none of a state's.
+    fn spoilt<Chosen: ChosenSize>() -> Part<Chosen> {
+        Part {
+            image: [0; IMAGE_BYTES],
+            ..Part::fresh()
+        }
+    }
+
+    fn refusals_are_returned<Chosen: ChosenSize>() {
+        let mut device = spoilt::<Chosen>();
+        let refused = Refusal::Image;
+        assert_eq!(device.run(&[0, 1]), Err(refused));
+        assert_eq!(device.step(0), Err(refused));
+        assert_eq!(device.write_memory(0, &[1]), Err(refused));
+        assert_eq!(device.read_memory(0, 1), Err(refused));
+        assert_eq!(device.write_registers(0x11, &[1]), Err(refused));
+        assert_eq!(device.read_registers(0x11, 1), Err(refused));
+        assert_eq!(device, spoilt());
+    }
+
+    #[test]
+    fn a_refusal_is_never_an_acknowledge() {
+        refusals_are_returned::<Kb64>();
+        refusals_are_returned::<Kb256>();
     }
 }

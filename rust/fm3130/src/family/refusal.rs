@@ -95,8 +95,9 @@ impl Error for Refusal {}
 
 /// Why a set was not made, or did no event. Under every refusal nothing was written.
 ///
-/// A set is tested for 1, 2, 9, 10 and 11 when it is made; a list run for 3 and 4, since what the
-/// others ask stays true of a set.
+/// A set is tested for 1, 2, 9, 10 and 11 when it is made; a list run is refused by 3 and 4 alone, since
+/// what 1, 2, 9 and 10 ask stays true of a [`Set`](super::Set): it lends its memories, and nothing else
+/// of its devices, to be changed.
 ///
 /// ```
 /// use fm3130::family::{Set, SetRefusal};

@@ -9,8 +9,7 @@ use super::size::{ChosenSize, Size};
 use super::state::{Counts, State};
 use super::transaction::{self, COMPANION, MEMORY};
 use super::Part;
-use crate::archive;
-use crate::IMAGE_BYTES;
+use crate::{archive, IMAGE_BYTES, UNANSWERED};
 
 /// The most devices of a set.
 pub const MOST_MEMBERS: usize = 4;
@@ -47,15 +46,11 @@ impl Member {
     /// assert_eq!(member.memory(), [0; 32_768]);
     /// ```
     pub fn fresh(size: Size, select: Select) -> Member {
-        let mut image = [0; IMAGE_BYTES];
-        // Number 0 for every image of 64 bytes, so there is nothing to hand on.
-        let _ = super::fresh(&mut image);
-        let memory = vec![0; size.bytes()];
         Member {
             size,
             select,
-            image,
-            memory,
+            image: super::entries::fresh_image(),
+            memory: vec![0; size.bytes()],
         }
     }
 
@@ -171,6 +166,8 @@ impl fmt::Debug for Member {
 /// every device. Each does what it would do alone; a whole transaction that names one device leaves
 /// the others, once ended, as they were.
 ///
+/// What [`Set::new`] tested stays true: of its devices only the memories are lent to be changed.
+///
 /// ```
 /// use fm3130::family::{edge_1, Member, Select, Set, SetRefusal, Size};
 ///
@@ -178,10 +175,10 @@ impl fmt::Debug for Member {
 ///     Member::fresh(Size::Kb256, Select::ZERO),
 ///     Member::fresh(Size::Kb64, Select::TWO),
 /// ])?;
-/// assert_eq!(set.write_memory(Select::TWO, 0x0010, &[0x5A]), [true]);
-/// assert_eq!(set.read_memory(Select::TWO, 0x0010, 1), [0x5A]);
-/// assert_eq!(set.read_memory(Select::ZERO, 0x0010, 1), [0x00]);
-/// assert_eq!(set.read_memory(Select::ONE, 0x0010, 1), []); // nobody has these select bits
+/// assert_eq!(set.write_memory(Select::TWO, 0x0010, &[0x5A])?, [true]);
+/// assert_eq!(set.read_memory(Select::TWO, 0x0010, 1)?, [0x5A]);
+/// assert_eq!(set.read_memory(Select::ZERO, 0x0010, 1)?, [0x00]);
+/// assert_eq!(set.read_memory(Select::ONE, 0x0010, 1)?, []); // nobody has these select bits
 ///
 /// set.run(&[edge_1(1), edge_1(1)])?;
 /// assert_eq!(set.device(1).map(|member| member.counts().one()), Some(2));
@@ -240,7 +237,7 @@ impl Set {
     /// # Ok::<(), SetRefusal>(())
     /// ```
     pub fn run(&mut self, events: &[u8]) -> Result<Vec<u8>, SetRefusal> {
-        let mut answers = vec![0; events.len()];
+        let mut answers = vec![UNANSWERED; events.len()];
         self.run_into(events, &mut answers)?;
         Ok(answers)
     }
@@ -283,7 +280,7 @@ impl Set {
     /// # Ok::<(), SetRefusal>(())
     /// ```
     pub fn step(&mut self, event: u8) -> Result<u8, SetRefusal> {
-        let mut told = [0];
+        let mut told = [UNANSWERED];
         self.run_into(&[event], &mut told)?;
         Ok(told[0])
     }
@@ -293,9 +290,20 @@ impl Set {
         self.members.get(place)
     }
 
-    /// The device at a place, to preset its memory.
-    pub fn device_mut(&mut self, place: usize) -> Option<&mut Member> {
-        self.members.get_mut(place)
+    /// The memory of the device at a place, to preset it from outside the bus; none past the last. FRAM
+    /// may hold any bytes.
+    ///
+    /// ```
+    /// use fm3130::family::{Member, Select, Set, SetRefusal, Size};
+    ///
+    /// let mut set = Set::new([Member::fresh(Size::Kb64, Select::ONE)])?;
+    /// set.memory_mut(0).unwrap()[0x0010] = 0x5A;
+    /// assert_eq!(set.read_memory(Select::ONE, 0x0010, 1)?, [0x5A]);
+    /// assert_eq!(set.memory_mut(1), None);
+    /// # Ok::<(), SetRefusal>(())
+    /// ```
+    pub fn memory_mut(&mut self, place: usize) -> Option<&mut [u8]> {
+        self.members.get_mut(place).map(Member::memory_mut)
     }
 
     /// All devices, in the order of their places.
@@ -332,40 +340,68 @@ impl Set {
 
     /// Writes registers of the device with some select bits over the bus: one whole transaction.
     /// Returns for each byte whether it was acknowledged; see [`Part::write_registers`].
-    pub fn write_registers(&mut self, select: Select, address: u8, bytes: &[u8]) -> Vec<bool> {
+    ///
+    /// # Errors
+    ///
+    /// That of [`Set::run`], should it refuse the transaction's events; then nothing was done.
+    pub fn write_registers(
+        &mut self,
+        select: Select,
+        address: u8,
+        bytes: &[u8],
+    ) -> Result<Vec<bool>, SetRefusal> {
         let place = [select.named(COMPANION), address];
-        transaction::write(&place, bytes, |events| self.answers_to(events))
+        transaction::write(&place, bytes, |events| self.run(events))
     }
 
     /// Reads registers of the device with some select bits over the bus: one whole transaction.
     /// Returns the bytes; none if nobody acknowledged. See [`Part::read_registers`].
-    pub fn read_registers(&mut self, select: Select, address: u8, count: usize) -> Vec<u8> {
+    ///
+    /// # Errors
+    ///
+    /// That of [`Set::run`], should it refuse the transaction's events; then nothing was done.
+    pub fn read_registers(
+        &mut self,
+        select: Select,
+        address: u8,
+        count: usize,
+    ) -> Result<Vec<u8>, SetRefusal> {
         let place = [select.named(COMPANION), address];
-        transaction::read(&place, count, |events| self.answers_to(events))
+        transaction::read(&place, count, |events| self.run(events))
     }
 
     /// Writes bytes to the memory of the device with some select bits over the bus: one whole
     /// transaction. Returns for each byte whether it was acknowledged; see [`Part::write_memory`].
-    pub fn write_memory(&mut self, select: Select, address: u16, bytes: &[u8]) -> Vec<bool> {
+    ///
+    /// # Errors
+    ///
+    /// That of [`Set::run`], should it refuse the transaction's events; then nothing was done.
+    pub fn write_memory(
+        &mut self,
+        select: Select,
+        address: u16,
+        bytes: &[u8],
+    ) -> Result<Vec<bool>, SetRefusal> {
         let [high, low] = address.to_be_bytes();
         let place = [select.named(MEMORY), high, low];
-        transaction::write(&place, bytes, |events| self.answers_to(events))
+        transaction::write(&place, bytes, |events| self.run(events))
     }
 
     /// Reads bytes of the memory of the device with some select bits over the bus: one whole
     /// transaction. Returns the bytes; none if nobody acknowledged. See [`Part::read_memory`].
-    pub fn read_memory(&mut self, select: Select, address: u16, count: usize) -> Vec<u8> {
+    ///
+    /// # Errors
+    ///
+    /// That of [`Set::run`], should it refuse the transaction's events; then nothing was done.
+    pub fn read_memory(
+        &mut self,
+        select: Select,
+        address: u16,
+        count: usize,
+    ) -> Result<Vec<u8>, SetRefusal> {
         let [high, low] = address.to_be_bytes();
         let place = [select.named(MEMORY), high, low];
-        transaction::read(&place, count, |events| self.answers_to(events))
-    }
-
-    /// The answers to a master's events, which are known, so that the list run takes them.
-    fn answers_to(&mut self, events: &[u8]) -> Vec<u8> {
-        let mut answers = vec![0; events.len()];
-        // Number 0: the set was judged when it was made, and a master's events are below 8.
-        let _ = self.run_into(events, &mut answers);
-        answers
+        transaction::read(&place, count, |events| self.run(events))
     }
 
     /// The plan, one byte a device.
@@ -403,5 +439,34 @@ fn edge(place: usize, first: u8) -> u8 {
     match u8::try_from(place) {
         Ok(place) if usize::from(place) < MOST_MEMBERS => first + 2 * place,
         _ => u8::MAX,
+    }
+}
+
+#[cfg(test)]
+mod tests {
+    use super::*;
+
+    /// Two devices with the same select bits, which [`Set::new`] refuses.
+    fn past_the_test() -> Set {
+        let members = [Size::Kb64, Size::Kb256].map(|size| Member::fresh(size, Select::ONE));
+        assert_eq!(Set::new(members.clone()), Err(SetRefusal::EqualSelects));
+        Set {
+            members: members.to_vec(),
+        }
+    }
+
+    #[test]
+    fn a_refusal_is_never_an_acknowledge() {
+        let mut set = past_the_test();
+        let before = set.clone();
+        let refused = SetRefusal::EqualSelects;
+        assert_eq!(set.run(&[0, 1]), Err(refused));
+        assert_eq!(set.step(0), Err(refused));
+        assert_eq!(set.write_memory(Select::ONE, 0, &[1]), Err(refused));
+        assert_eq!(set.read_memory(Select::ONE, 0, 1), Err(refused));
+        let serial = crate::family::registers::SERIAL;
+        assert_eq!(set.write_registers(Select::ONE, serial, &[1]), Err(refused));
+        assert_eq!(set.read_registers(Select::ONE, serial, 1), Err(refused));
+        assert_eq!(set, before);
     }
 }

@@ -14,25 +14,33 @@ const READ: u8 = 0x01;
 const CLOCKS_OF_A_BYTE: usize = 9;
 
 /// A Start, the bytes that name a place, data bytes and a Stop. Returns for each data byte whether it
-/// was acknowledged.
-pub fn write(place: &[u8], bytes: &[u8], answers_to: impl FnOnce(&[u8]) -> Vec<u8>) -> Vec<bool> {
+/// was acknowledged, or why the events were refused.
+pub fn write<Refused>(
+    place: &[u8],
+    bytes: &[u8],
+    answers_to: impl FnOnce(&[u8]) -> Result<Vec<u8>, Refused>,
+) -> Result<Vec<bool>, Refused> {
     let mut events = vec![event::START];
     for byte in place.iter().chain(bytes) {
         events.extend(event::written_byte(*byte));
     }
     events.push(event::STOP);
-    let answers = answers_to(&events);
+    let answers = answers_to(&events)?;
     let flags = acknowledges(&answers[1..]);
     let (named, told) = flags.split_at(place.len());
-    match named.iter().all(|flag| *flag) {
+    Ok(match named.iter().all(|flag| *flag) {
         true => told.to_vec(),
         false => vec![false; bytes.len()],
-    }
+    })
 }
 
 /// A Start, the bytes that name a place, a repeated Start, the slave byte for reading, data bytes, the
-/// last of them not acknowledged, and a Stop. Returns the data bytes.
-pub fn read(place: &[u8], count: usize, answers_to: impl FnOnce(&[u8]) -> Vec<u8>) -> Vec<u8> {
+/// last of them not acknowledged, and a Stop. Returns the data bytes, or why the events were refused.
+pub fn read<Refused>(
+    place: &[u8],
+    count: usize,
+    answers_to: impl FnOnce(&[u8]) -> Result<Vec<u8>, Refused>,
+) -> Result<Vec<u8>, Refused> {
     let mut events = vec![event::START];
     for byte in place {
         events.extend(event::written_byte(*byte));
@@ -45,13 +53,13 @@ pub fn read(place: &[u8], count: usize, answers_to: impl FnOnce(&[u8]) -> Vec<u8
         events.extend(event::read_byte(left > 0));
     }
     events.push(event::STOP);
-    let answers = answers_to(&events);
+    let answers = answers_to(&events)?;
     let mut named = acknowledges(&answers[1..again]);
     named.extend(acknowledges(&answers[again + 1..data]));
-    match named.iter().all(|flag| *flag) {
+    Ok(match named.iter().all(|flag| *flag) {
         true => bytes_of(&answers[data..]),
         false => Vec::new(),
-    }
+    })
 }
 
 /// Whether each whole byte in some answers was acknowledged: the line is low at its ninth clock.
