@@ -8,7 +8,7 @@ use std::fmt;
 
 use fm3130::event::{CLOCK_HIGH, CLOCK_LOW};
 use fm3130::family::{self, Counts, Fm31256, Fm3164, Member, Select, Size};
-use fm3130::{Calendar, Device, NextLine, Phase, Pin, PinFunction, Power, Rolled};
+use fm3130::{Calendar, Device, NextLine, Phase, Pin, PinFunction, Power, Rolled, UNANSWERED};
 
 /// A part that can be chosen.
 #[derive(Clone, Copy, Debug, PartialEq, Eq)]
@@ -247,7 +247,7 @@ impl Chip {
     /// copies.
     pub fn next_line(&self) -> Result<NextLine, Refused> {
         if let Chip::Fm3130(device) = self {
-            return Ok(device.next_line());
+            return Ok(device.next_line()?);
         }
         Ok(NextLine {
             pulled: self.pulls_last(&[CLOCK_HIGH])?,
@@ -258,7 +258,7 @@ impl Chip {
 
     /// Whether the device pulls the last of some clocks, in which the master leaves the line high.
     fn pulls_last(&self, clocks: &[u8]) -> Result<bool, Refused> {
-        let mut answers = vec![0; clocks.len()];
+        let mut answers = vec![UNANSWERED; clocks.len()];
         self.clone().run_into(clocks, &mut answers)?;
         Ok(answers.last().is_some_and(|answer| answer & 1 == 0))
     }
@@ -439,7 +439,7 @@ pub mod trial {
 
     /// Does one event, which is known; returns its answer.
     pub fn step(chip: &mut Chip, event: u8) -> fm3130::Answer {
-        let mut answer = [0];
+        let mut answer = [UNANSWERED];
         chip.run_into(&[event], &mut answer).unwrap();
         fm3130::Answer(answer[0])
     }

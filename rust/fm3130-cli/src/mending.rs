@@ -1,7 +1,7 @@
 // SPDX-License-Identifier: Apache-2.0
 //! What was put right in an image, in words: each byte that changed, and why it could not stay.
 
-use fm3130::{registers, Calendar, Change, Device};
+use fm3130::{registers, Calendar, Change, Device, Refusal};
 
 /// The least and the greatest figure of each field, 02h to 08h; a date by itself is 1 to 31.
 const RANGES: [(&str, u8, u8); 7] = [
@@ -41,15 +41,15 @@ pub struct Mended {
 
 impl Mended {
     /// Puts a device right.
-    pub fn of(mut device: Device) -> Mended {
+    pub fn of(mut device: Device) -> Result<Mended, Refusal> {
         let core = device.calendar();
-        let registers = device.mend();
+        let registers = device.mend()?;
         let core = differences(core, device.calendar());
-        Mended {
+        Ok(Mended {
             device,
             registers,
             core,
-        }
+        })
     }
 
     /// True when anything changed.
@@ -140,7 +140,7 @@ mod tests {
         let mut image = *Device::fresh().image();
         image[2..9].copy_from_slice(&time);
         image[15..22].copy_from_slice(&core);
-        Mended::of(Device::from_parts(&image, &[0; 8192]).unwrap())
+        Mended::of(Device::from_parts(&image, &[0; 8192]).unwrap()).unwrap()
     }
 
     fn lines(time: [u8; 7], core: [u8; 7]) -> Vec<String> {

@@ -1,10 +1,10 @@
 // SPDX-License-Identifier: Apache-2.0
 //! Stores a byte in the memory and reads it back, over the bus.
 
-use fm3130::master::Refusal;
+use fm3130::master::TransactionRefusal;
 use fm3130::Device;
 
-fn main() -> Result<(), Refusal> {
+fn main() -> Result<(), TransactionRefusal> {
     let mut device = Device::fresh();
 
     let acknowledged = device.write(0x0123, &[0x5A])?;

@@ -10,11 +10,11 @@ use crate::change::Change;
 use crate::entries;
 use crate::lamps::Report;
 use crate::line::NextLine;
-use crate::master;
+use crate::master::{self, TransactionRefusal};
 use crate::refusal::Refusal;
 use crate::rolled::{Rolled, Told};
 use crate::state::{Phase, Power, State};
-use crate::{CHANGES_ROOM, IMAGE_BYTES, MEMORY_BYTES, REGISTER_COUNT};
+use crate::{CHANGES_ROOM, IMAGE_BYTES, MEMORY_BYTES, REGISTER_COUNT, UNANSWERED};
 
 /// One FM3130: a state image and 8,192 bytes of memory.
 ///
@@ -36,8 +36,8 @@ impl Device {
     /// ```
     pub fn fresh() -> Device {
         let mut image = [0; IMAGE_BYTES];
-        // Number 0 for every image of 64 bytes, so there is nothing to hand on.
-        let _ = archive::fresh(&mut image);
+        // 64 bytes are not refused. Were they, zeros would stay, which every entry refuses by number 2.
+        let image = archive::fresh(&mut image).map_or([0; IMAGE_BYTES], |()| image);
         Device {
             image,
             memory: Box::new([0; MEMORY_BYTES]),
@@ -85,7 +85,7 @@ impl Device {
     /// # Ok::<(), fm3130::Refusal>(())
     /// ```
     pub fn run(&mut self, events: &[u8]) -> Result<Vec<u8>, Refusal> {
-        let mut answers = vec![0; events.len()];
+        let mut answers = vec![UNANSWERED; events.len()];
         self.run_into(events, &mut answers)?;
         Ok(answers)
     }
@@ -124,7 +124,7 @@ impl Device {
     /// # Ok::<(), fm3130::Refusal>(())
     /// ```
     pub fn step(&mut self, event: u8) -> Result<u8, Refusal> {
-        let mut answer = [0];
+        let mut answer = [UNANSWERED];
         self.run_into(&[event], &mut answer)?;
         Ok(answer[0])
     }
@@ -153,7 +153,7 @@ impl Device {
     /// # Ok::<(), fm3130::Refusal>(())
     /// ```
     pub fn step_told(&mut self, event: u8) -> Result<Told, Refusal> {
-        let mut told = [0; 2];
+        let mut told = [UNANSWERED, 0];
         entries::step(&mut self.image, &mut self.memory[..], event, &mut told)?;
         let [answer, field] = told;
         Ok(Told {
@@ -164,19 +164,27 @@ impl Device {
 
     /// What the device will do to the line of the next Clock, and of the one after it. Nothing is changed.
     ///
+    /// # Errors
+    ///
+    /// None that is known: [`Refusal::Image`] if the image were none of a state's.
+    ///
     /// ```
     /// use fm3130::Device;
     ///
-    /// assert!(!Device::fresh().next_line().pulled);
+    /// assert!(!Device::fresh().next_line()?.pulled);
+    /// # Ok::<(), fm3130::Refusal>(())
     /// ```
-    pub fn next_line(&self) -> NextLine {
-        // Number 0 for every well-formed image and this much memory, so there is nothing to hand on.
-        archive::next_line(&self.image, &self.memory[..]).unwrap_or_default()
+    pub fn next_line(&self) -> Result<NextLine, Refusal> {
+        archive::next_line(&self.image, &self.memory[..])
     }
 
     /// Puts right registers 02h to 08h and, by itself but by the same rule, the core: each field that
     /// is out of range on its own goes to its lowest legal figure, then a date beyond its month's end
     /// goes to the last day. Returns the registers changed, in their order; the core is none of them.
+    ///
+    /// # Errors
+    ///
+    /// None that is known: [`Refusal::Image`] if the image were none of a state's; then it has not changed.
     ///
     /// ```
     /// use fm3130::Device;
@@ -185,18 +193,17 @@ impl Device {
     /// image[6..8].copy_from_slice(&[0x31, 0x04]); // 31 April, in the registers
     /// image[19..21].copy_from_slice(&[0x30, 0x02]); // 30 February, in the core
     /// let mut device = Device::from_parts(&image, &[0; 8192])?;
-    /// let changes = device.mend();
+    /// let changes = device.mend()?;
     /// assert_eq!(changes.len(), 1);
     /// assert_eq!(changes[0].to_string(), "06h date: 31h to 30h");
     /// assert_eq!(device.calendar().to_string(), "00:00:00, 29/02/00, day 1");
-    /// assert_eq!(device.mend(), []);
+    /// assert_eq!(device.mend()?, []);
     /// # Ok::<(), fm3130::Refusal>(())
     /// ```
-    pub fn mend(&mut self) -> Vec<Change> {
+    pub fn mend(&mut self) -> Result<Vec<Change>, Refusal> {
         let mut list = [0; CHANGES_ROOM];
-        // Number 0 for every well-formed image and this much room, so there is nothing to hand on.
-        let count = archive::mend(&mut self.image, &mut list).unwrap_or(0);
-        Change::all_of(&list, count)
+        let count = archive::mend(&mut self.image, &mut list)?;
+        Ok(Change::all_of(&list, count))
     }
 
     /// Catches up after sleep: does many ticks in one call, as [`Device::run`] does a list of them,
@@ -233,8 +240,8 @@ impl Device {
     ///
     /// # Errors
     ///
-    /// [`master::Refusal::TooMany`] above 256 bytes, [`master::Refusal::WrongAddress`] above 1FFFh;
-    /// then nothing was done.
+    /// [`master::Refusal::TooMany`] above 256 bytes, [`master::Refusal::WrongAddress`] above 1FFFh, or that
+    /// of [`Device::run`], should it refuse the transaction's events; then nothing was done.
     ///
     /// ```
     /// use fm3130::{event, Device};
@@ -242,14 +249,14 @@ impl Device {
     /// let mut device = Device::fresh();
     /// assert_eq!(device.write(0x1FFF, &[0x5A, 0xC3])?, [true, true]);
     /// assert_eq!((device.memory()[0x1FFF], device.memory()[0x0000]), (0x5A, 0xC3));
-    /// device.step(event::POWER_LOST_WITH_BACKUP).unwrap();
+    /// device.step(event::POWER_LOST_WITH_BACKUP)?;
     /// assert_eq!(device.write(0x1FFF, &[0x00])?, [false]);
-    /// # Ok::<(), fm3130::master::Refusal>(())
+    /// # Ok::<(), fm3130::master::TransactionRefusal>(())
     /// ```
-    pub fn write(&mut self, address: u64, bytes: &[u8]) -> Result<Vec<bool>, master::Refusal> {
+    pub fn write(&mut self, address: u64, bytes: &[u8]) -> Result<Vec<bool>, TransactionRefusal> {
         let mut events = vec![0; master::write_events_count(bytes.len().min(master::MOST))];
         master::write_events(address, bytes, &mut events)?;
-        let answers = self.answers_to(&events);
+        let answers = self.run(&events)?;
         let mut flags = vec![0; bytes.len()];
         master::write_told(bytes.len() as u64, &answers, &mut flags)?;
         Ok(flags.into_iter().map(|flag| flag == 1).collect())
@@ -261,7 +268,8 @@ impl Device {
     /// # Errors
     ///
     /// [`master::Refusal::TooMany`] above 256 bytes, [`master::Refusal::ReadOfNone`],
-    /// [`master::Refusal::WrongAddress`] above 1FFFh; then nothing was done.
+    /// [`master::Refusal::WrongAddress`] above 1FFFh, or that of [`Device::run`], should it refuse the
+    /// transaction's events; then nothing was done.
     ///
     /// ```
     /// use fm3130::Device;
@@ -269,25 +277,17 @@ impl Device {
     /// let mut device = Device::fresh();
     /// device.write(0x1FFF, &[0x5A, 0xC3])?;
     /// assert_eq!(device.read(0x1FFF, 3)?, [0x5A, 0xC3, 0x00]);
-    /// # Ok::<(), fm3130::master::Refusal>(())
+    /// # Ok::<(), fm3130::master::TransactionRefusal>(())
     /// ```
-    pub fn read(&mut self, address: u64, count: u64) -> Result<Vec<u8>, master::Refusal> {
+    pub fn read(&mut self, address: u64, count: u64) -> Result<Vec<u8>, TransactionRefusal> {
         let most = usize::try_from(count).map_or(master::MOST, |count| count.min(master::MOST));
         let mut events = vec![0; master::read_events_count(most)];
         master::read_events(address, count, &mut events)?;
-        let answers = self.answers_to(&events);
+        let answers = self.run(&events)?;
         let mut bytes = vec![0; most];
         let told = master::read_told(count, &answers, &mut bytes)?;
         bytes.truncate(told);
         Ok(bytes)
-    }
-
-    /// The answers to a master's events, which are known, so that the list run takes them.
-    fn answers_to(&mut self, events: &[u8]) -> Vec<u8> {
-        let mut answers = vec![0; events.len()];
-        // Number 0: the image is a state's, and every event of a master's transaction is below 8.
-        let _ = self.run_into(events, &mut answers);
-        answers
     }
 
     /// Runs a list of events with a proving record beside it; the answers go to the first bytes of
@@ -465,5 +465,39 @@ impl fmt::Debug for Device {
             .debug_struct("Device")
             .field("state", &self.state())
             .finish_non_exhaustive()
+    }
+}
+
+#[cfg(test)]
+mod tests {
+    use super::*;
+
+    /// A device that no safe code makes: its image is none of a state's.
+    fn spoilt() -> Device {
+        Device {
+            image: [0; IMAGE_BYTES],
+            ..Device::fresh()
+        }
+    }
+
+    #[test]
+    fn a_refusal_is_never_an_acknowledge() {
+        let mut device = spoilt();
+        let refused = Refusal::Image;
+        assert_eq!(device.run(&[0, 1]), Err(refused));
+        assert_eq!(device.step(0), Err(refused));
+        assert_eq!(device.step_told(4), Err(refused));
+        assert_eq!(device.write(0, &[1]), Err(refused.into()));
+        assert_eq!(device.read(0, 1), Err(refused.into()));
+        assert_eq!(device, spoilt());
+    }
+
+    #[test]
+    fn a_refusal_is_never_a_line_let_go_or_an_image_that_is_right() {
+        let mut device = spoilt();
+        assert_eq!(device.next_line(), Err(Refusal::Image));
+        assert_eq!(device.mend(), Err(Refusal::Image));
+        assert_eq!(device.catch_up(1), Err(Refusal::Image));
+        assert_eq!(device, spoilt());
     }
 }

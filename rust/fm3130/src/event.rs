@@ -62,10 +62,10 @@ pub fn clock(line_is_high: bool) -> u8 {
 /// assert_eq!(fm3130::event::written_byte(0xA0), [3, 2, 3, 2, 2, 2, 2, 2, 3]);
 /// ```
 pub fn written_byte(byte: u8) -> [u8; 9] {
-    let mut events = [CLOCK_HIGH; master::write_events_count(1)];
+    let mut events = [STOP; master::write_events_count(1)];
     // Accepted: one byte, a good address, and room for all events.
-    let _ = master::write_events(0, &[byte], &mut events);
-    first_data_byte(&events, master::write_events_count(0) - 1)
+    let written = master::write_events(0, &[byte], &mut events);
+    first_data_byte(written, &events, master::write_events_count(0) - 1)
 }
 
 /// The nine clocks of a byte that the master reads: the line released for eight, and at the ninth
@@ -75,18 +75,32 @@ pub fn written_byte(byte: u8) -> [u8; 9] {
 /// assert_eq!(fm3130::event::read_byte(true), [3, 3, 3, 3, 3, 3, 3, 3, 2]);
 /// ```
 pub fn read_byte(acknowledges: bool) -> [u8; 9] {
-    let mut events = [CLOCK_HIGH; master::read_events_count(2)];
+    let mut events = [STOP; master::read_events_count(2)];
     // Accepted, as above. The first of two bytes goes on, an only one is the last.
-    let _ = master::read_events(0, if acknowledges { 2 } else { 1 }, &mut events);
-    first_data_byte(&events, master::read_events_count(0) - 1)
+    let read = master::read_events(0, if acknowledges { 2 } else { 1 }, &mut events);
+    first_data_byte(read, &events, master::read_events_count(0) - 1)
 }
 
 /// The nine clocks of the first data byte of a transaction, which stand where its Stop would stand if
-/// it had none.
-fn first_data_byte(events: &[u8], place: usize) -> [u8; 9] {
-    let mut clocks = [CLOCK_HIGH; 9];
-    for (clock, event) in clocks.iter_mut().zip(events.iter().skip(place)) {
+/// it had none. A transaction that was refused moves no byte: Stops alone.
+fn first_data_byte(filled: Result<usize, master::Refusal>, events: &[u8], place: usize) -> [u8; 9] {
+    let mut clocks = [STOP; 9];
+    let written = events.get(..filled.unwrap_or(0)).unwrap_or_default();
+    for (clock, event) in clocks.iter_mut().zip(written.iter().skip(place)) {
         *clock = *event;
     }
     clocks
+}
+
+#[cfg(test)]
+mod tests {
+    use super::*;
+
+    #[test]
+    fn a_refused_transaction_has_no_clocks() {
+        let events = [CLOCK_LOW; 38];
+        let refused = Err(master::Refusal::LittleRoom);
+        assert_eq!(first_data_byte(refused, &events, 28), [STOP; 9]);
+        assert_eq!(first_data_byte(Ok(38), &events, 28), [CLOCK_LOW; 9]);
+    }
 }

@@ -12,10 +12,10 @@ use crate::refusal::Refusal;
 /// // Start, and seven bits of the slave byte A0h: the eighth may be 0 or 1, both are acknowledged.
 /// let mut device = Device::fresh();
 /// device.run(&[0, 3, 2, 3, 2, 2, 2, 2])?;
-/// let line = device.next_line();
+/// let line = device.next_line()?;
 /// assert!(!line.pulled && line.pulled_after_low && line.pulled_after_high);
 /// device.run(&[2])?;
-/// assert!(device.next_line().pulled); // the acknowledge
+/// assert!(device.next_line()?.pulled); // the acknowledge
 /// # Ok::<(), fm3130::Refusal>(())
 /// ```
 #[derive(Clone, Copy, Debug, Default, PartialEq, Eq, Hash)]

@@ -111,6 +111,46 @@ impl fmt::Display for Refusal {
 
 impl Error for Refusal {}
 
+/// Why a whole transaction on a device was not done: the master's side refused it, or the device its
+/// events. Under each, nothing was done.
+///
+/// ```
+/// use fm3130::master::{Refusal, TransactionRefusal};
+///
+/// let refused = fm3130::Device::fresh().read(0x2000, 1);
+/// assert_eq!(refused, Err(TransactionRefusal::Master(Refusal::WrongAddress)));
+/// ```
+#[derive(Clone, Copy, Debug, PartialEq, Eq, Hash)]
+pub enum TransactionRefusal {
+    /// The master's side refused the transaction.
+    Master(Refusal),
+    /// The device refused its events.
+    Device(crate::Refusal),
+}
+
+impl From<Refusal> for TransactionRefusal {
+    fn from(refusal: Refusal) -> TransactionRefusal {
+        TransactionRefusal::Master(refusal)
+    }
+}
+
+impl From<crate::Refusal> for TransactionRefusal {
+    fn from(refusal: crate::Refusal) -> TransactionRefusal {
+        TransactionRefusal::Device(refusal)
+    }
+}
+
+impl fmt::Display for TransactionRefusal {
+    fn fmt(&self, formatter: &mut fmt::Formatter<'_>) -> fmt::Result {
+        match self {
+            TransactionRefusal::Master(refusal) => refusal.fmt(formatter),
+            TransactionRefusal::Device(refusal) => refusal.fmt(formatter),
+        }
+    }
+}
+
+impl Error for TransactionRefusal {}
+
 /// The events of a whole write of bytes from an address on; they go to the first bytes of `events`,
 /// the others stay. Returns their number. A write of no bytes sets the address.
 ///

@@ -17,7 +17,7 @@ fn bytes_come_back_at_every_count_and_over_the_end() {
             assert_eq!(device.write(address, &sent), Ok(vec![true; count]));
             match device.read(address, count as u64) {
                 Ok(read) => assert_eq!(read, sent, "{count} at {address:04X}h"),
-                Err(refusal) => assert_eq!((refusal, count), (Refusal::ReadOfNone, 0)),
+                Err(refusal) => assert_eq!((refusal, count), (Refusal::ReadOfNone.into(), 0)),
             }
         }
     }
@@ -60,14 +60,16 @@ fn without_power_nothing_is_acknowledged() {
 fn what_is_refused_changes_nothing() {
     let mut device = Device::fresh();
     let before = device.clone();
-    assert_eq!(device.write(0x2000, &[0; 257]), Err(Refusal::TooMany));
-    assert_eq!(device.write(0x2000, &[0]), Err(Refusal::WrongAddress));
-    assert_eq!(device.write(u64::MAX, &[]), Err(Refusal::WrongAddress));
+    let [too_many, of_none, address] =
+        [Refusal::TooMany, Refusal::ReadOfNone, Refusal::WrongAddress].map(Refusal::into);
+    assert_eq!(device.write(0x2000, &[0; 257]), Err(too_many));
+    assert_eq!(device.write(0x2000, &[0]), Err(address));
+    assert_eq!(device.write(u64::MAX, &[]), Err(address));
     for count in [257, 1 << 32, u64::MAX] {
-        assert_eq!(device.read(0x2000, count), Err(Refusal::TooMany));
+        assert_eq!(device.read(0x2000, count), Err(too_many));
     }
-    assert_eq!(device.read(0x2000, 0), Err(Refusal::ReadOfNone));
-    assert_eq!(device.read(0x2000, 1), Err(Refusal::WrongAddress));
+    assert_eq!(device.read(0x2000, 0), Err(of_none));
+    assert_eq!(device.read(0x2000, 1), Err(address));
     assert_eq!(device, before);
 }
 

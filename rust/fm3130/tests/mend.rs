@@ -21,14 +21,19 @@ const VALID: [u8; 7] = [0x59, 0x59, 0x23, 0x07, 0x31, 0x12, 0x99];
 fn a_valid_device_stays_as_it_is() {
     let mut device = device_with(VALID, [0x00, 0x30, 0x12, 0x03, 0x29, 0x02, 0x08]);
     let before = device.clone();
-    assert_eq!(device.mend(), []);
+    assert_eq!(device.mend().unwrap(), []);
     assert_eq!(device, before);
 }
 
 #[test]
 fn every_field_goes_to_its_lowest_figure() {
     let mut device = device_with([0x60, 0x7A, 0x24, 0x00, 0x32, 0x13, 0xAA], VALID);
-    let changes: Vec<String> = device.mend().iter().map(Change::to_string).collect();
+    let changes: Vec<String> = device
+        .mend()
+        .unwrap()
+        .iter()
+        .map(Change::to_string)
+        .collect();
     let expected = [
         "02h seconds: 60h to 00h",
         "03h minutes: 7Ah to 00h",
@@ -46,7 +51,7 @@ fn every_field_goes_to_its_lowest_figure() {
 fn a_late_date_goes_to_the_last_day_of_the_month_put_right() {
     let mended = |date, month, year| {
         let mut device = device_with([0, 0, 0, 1, date, month, year], VALID);
-        device.mend();
+        device.mend().unwrap();
         (device.registers()[6], device.registers()[7])
     };
     assert_eq!(mended(0x31, 0x04, 0x09), (0x30, 0x04));
@@ -60,7 +65,7 @@ fn a_late_date_goes_to_the_last_day_of_the_month_put_right() {
 #[test]
 fn the_core_is_put_right_by_itself_and_not_listed() {
     let mut device = device_with(VALID, [0x61, 0x00, 0x00, 0x02, 0x31, 0x06, 0x10]);
-    assert_eq!(device.mend(), []);
+    assert_eq!(device.mend().unwrap(), []);
     assert_eq!(device.calendar().to_string(), "00:00:00, 30/06/10, day 2");
     assert_eq!(device.registers()[TIME..TIME + 7], VALID);
 }
@@ -70,7 +75,7 @@ fn all_else_stays_in_the_middle_of_a_transfer() {
     let mut device = device_with([0, 0, 0, 1, 0x31, 0x04, 0], VALID);
     device.run(&[event::START, event::CLOCK_HIGH]).unwrap();
     let before = device.clone();
-    assert_eq!(device.mend().len(), 1);
+    assert_eq!(device.mend().unwrap().len(), 1);
     for (place, (old, new)) in before.image().iter().zip(device.image()).enumerate() {
         assert_eq!(old != new, place == 6, "byte {place}");
     }

@@ -25,7 +25,8 @@ pub fn command(words: Vec<OsString>) -> Outcome {
     let Some(path) = arguments.path("--image") else {
         return Err(wrong("mend needs --image FILE"));
     };
-    let mended = Mended::of(read_device(&path)?);
+    let mended =
+        Mended::of(read_device(&path)?).map_err(|refusal| Failure::of_refusal(&path, refusal))?;
     let is_written = mended.is_changed() && !arguments.has("--dry-run");
     // The new file stands beside the old one before anything is said, and takes its place last: so
     // whatever fails leaves the old one as it was.
