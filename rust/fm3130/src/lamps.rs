@@ -5,7 +5,7 @@ use std::fmt;
 
 use crate::device::Device;
 use crate::refusal::Refusal;
-use crate::RECORD_BYTES;
+use crate::{RECORD_BYTES, UNANSWERED};
 
 /// The address of the first lamp's byte.
 const FIRST_ADDRESS: u16 = 0x1000;
@@ -129,7 +129,7 @@ impl Lamps {
         &self.record
     }
 
-    /// The lamps after the last event.
+    /// The lamps after the last event; all dark after a call that was refused.
     ///
     /// ```
     /// assert_eq!(fm3130::Lamps::begun().report().to_string(), "........");
@@ -142,7 +142,8 @@ impl Lamps {
     ///
     /// # Errors
     ///
-    /// [`Refusal::UnknownEvent`]; then no event was done, and the record is as it was.
+    /// [`Refusal::UnknownEvent`]; then no event was done, the record is as it was, and no lamp may be shown
+    /// lit until a call is answered.
     ///
     /// ```
     /// use fm3130::{event, Device, Lamps};
@@ -153,7 +154,7 @@ impl Lamps {
     /// # Ok::<(), fm3130::Refusal>(())
     /// ```
     pub fn run(&mut self, device: &mut Device, events: &[u8]) -> Result<Vec<u8>, Refusal> {
-        let mut answers = vec![0; events.len()];
+        let mut answers = vec![UNANSWERED; events.len()];
         self.run_into(device, events, &mut answers)?;
         Ok(answers)
     }
@@ -162,7 +163,7 @@ impl Lamps {
     ///
     /// # Errors
     ///
-    /// [`Refusal::UnknownEvent`] or [`Refusal::ShortAnswers`]; then no event was done.
+    /// [`Refusal::UnknownEvent`] or [`Refusal::ShortAnswers`], as in [`Lamps::run`].
     ///
     /// ```
     /// use fm3130::{event, Device, Lamps, Refusal};
@@ -177,6 +178,7 @@ impl Lamps {
         events: &[u8],
         answers: &mut [u8],
     ) -> Result<(), Refusal> {
+        self.report = Report::default();
         self.report = device.run_with(&mut self.record, events, answers)?;
         Ok(())
     }

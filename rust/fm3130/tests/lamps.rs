@@ -1,7 +1,7 @@
 // SPDX-License-Identifier: Apache-2.0
 //! The lamps of the wrapper and of the second program on the same lists, and a record that is kept as bytes.
 
-use fm3130::{Device, Lamps, Refusal, Report};
+use fm3130::{master, Device, Lamps, Refusal, Report};
 use second::generate;
 use second::proving_record::ProvingRecord;
 
@@ -39,6 +39,22 @@ fn a_refused_list_changes_nothing() {
         Err(Refusal::UnknownEvent)
     );
     assert_eq!((device, lamps), before);
+}
+
+#[test]
+fn no_lamp_is_lit_after_a_refusal() {
+    let (mut device, mut lamps) = (Device::fresh(), Lamps::begun());
+    device.memory_mut()[0x1000] = 1;
+    let mut read = [0; master::read_events_count(1)];
+    master::read_events(0x1000, 1, &mut read).unwrap();
+    lamps.run(&mut device, &read).unwrap();
+    assert_eq!(lamps.report(), Report(1));
+    let record = *lamps.bytes();
+    lamps.run(&mut device, &[8]).unwrap_err();
+    assert_eq!((lamps.report(), *lamps.bytes()), (Report(0), record));
+    // The record stands, so the next call that is answered reports again.
+    lamps.run(&mut device, &[]).unwrap();
+    assert_eq!(lamps.report(), Report(1));
 }
 
 #[test]
