@@ -99,12 +99,19 @@ fn test_capture(arguments: &Arguments, part: Part) -> Outcome {
 
 /// Refuses a run that is too long for a capture, before anything is done.
 fn test_length(arguments: &Arguments, source: &dyn Source) -> Outcome {
-    let (total, most) = (source.total(), capture::MOST_EVENTS);
-    if arguments.path("--capture").is_some() && total > most as u64 {
-        let words = format!("{total} events are too many for --capture, which holds {most}");
-        return Err(Failure::Script(words));
+    let total = source.total();
+    if arguments.path("--capture").is_some() && total > capture::MOST_EVENTS as u64 {
+        return Err(too_long(total));
     }
     Ok(())
+}
+
+/// A run of so many events is too long for a capture.
+fn too_long(total: u64) -> Failure {
+    let most = capture::MOST_EVENTS;
+    Failure::Script(format!(
+        "{total} events are too many for --capture, which holds {most}"
+    ))
 }
 
 /// Refuses a command line in which two words name one file.
@@ -271,14 +278,7 @@ impl Targets {
             file.write(device.memory())?;
         }
         if let Some(file) = &mut self.capture {
-            let capture = Capture {
-                image: begin.image(),
-                memory: begin.memory(),
-                events: &self.recorded.events,
-                answers: &self.recorded.answers,
-            };
-            // The number of events was tested before the run.
-            file.write(&capture.to_file().unwrap_or_default())?;
+            file.write(&capture_of(begin, &self.recorded)?)?;
         }
         let all = [
             self.image,
@@ -289,5 +289,37 @@ impl Targets {
             self.capture,
         ];
         files::commit_all(all.into_iter().flatten().collect())
+    }
+}
+
+/// The capture of a run that began with a device.
+fn capture_of(begin: &Chip, recorded: &Recorded) -> Outcome<Vec<u8>> {
+    let capture = Capture {
+        image: begin.image(),
+        memory: begin.memory(),
+        events: &recorded.events,
+        answers: &recorded.answers,
+    };
+    let total = recorded.events.len() as u64;
+    capture.to_file().ok_or_else(|| too_long(total))
+}
+
+#[cfg(test)]
+mod tests {
+    use super::*;
+
+    #[test]
+    fn a_capture_that_is_too_long_is_no_empty_file() {
+        let of = |events| {
+            let recorded = Recorded {
+                events: vec![fm3130::event::TICK; events],
+                answers: vec![5; events],
+            };
+            capture_of(&Chip::fresh(Part::Fm3130), &recorded)
+        };
+        assert_eq!(of(1).unwrap().len(), capture::TABLE_BYTES + 64 + 8192 + 2);
+        assert!(of(capture::MOST_EVENTS).is_ok());
+        let refused = of(capture::MOST_EVENTS + 1).unwrap_err().to_string();
+        assert!(refused.contains("too many for --capture"), "{refused}");
     }
 }
