@@ -10,6 +10,9 @@ enum { SUPPLIES_AT = 25, MAIN_POWER = 0, CLOCKS_AT = 27, BEFORE_EIGHTH = 7 };
 /* Nothing waits. It is a Start's number, which never does. */
 enum { NOTHING = FM3130_START };
 
+/* The answer before any event, and of a refused one: the line high, the ACS pin released. */
+enum { NO_ANSWER = FM3130_ANSWER_LINE };
+
 /* Leaves the bus. A master gets no more acknowledges, so it cannot miss it. */
 static void leave(struct pins *pins, unsigned number) {
     pins_release_sda();
@@ -151,8 +154,7 @@ static void outlast(struct pins *pins) {
 }
 
 unsigned pins_due(struct pins *pins, uint8_t event) {
-    pins_look(pins);
-    if (pins->number != FM3130_OK) {
+    if (pins_look(pins) != FM3130_OK) {
         return pins->number;
     }
     if (event < FM3130_TICK || event > FM3130_POWER_RETURNED) {
@@ -173,6 +175,15 @@ unsigned pins_due(struct pins *pins, uint8_t event) {
     return pins->number;
 }
 
+/* The levels to begin with. SDA counts only if SCL was high before it was read and after. */
+static void look_first(struct pins *pins) {
+    pins->scl = pins_read_scl() != 0;
+    if (pins->scl) {
+        pins->sda = pins_read_sda() != 0;
+        pins->scl = pins_read_scl() != 0;
+    }
+}
+
 /*
  * The first event changes nothing, power returned where it is on or lost where it is off; it is
  * done for its answer, which has the ACS pin.
@@ -180,10 +191,10 @@ unsigned pins_due(struct pins *pins, uint8_t event) {
 unsigned pins_begin(struct pins *pins, uint8_t *image, uint8_t *memory) {
     pins->image = image;
     pins->memory = memory;
-    pins->answer = 0;
+    pins->answer = NO_ANSWER;
+    pins->sda = 1;
     leave(pins, FM3130_OK);
-    pins->sda = pins_read_sda() != 0;
-    pins->scl = pins_read_scl() != 0;
+    look_first(pins);
     happen(pins, image[SUPPLIES_AT] == MAIN_POWER ? FM3130_POWER_RETURNED
                                                   : FM3130_POWER_LOST_WITH_BACKUP);
     if (pins->scl == 0) {

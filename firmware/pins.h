@@ -7,8 +7,10 @@
  *
  *   static uint8_t image[FM3130_IMAGE_BYTES], memory[FM3130_MEMORY_BYTES];
  *   static struct pins pins;
- *   fm3130_fresh(image, sizeof image);
- *   unsigned number = pins_begin(&pins, image, memory);
+ *   unsigned number = (unsigned)fm3130_fresh(image, sizeof image);
+ *   if (number == 0) {
+ *       number = pins_begin(&pins, image, memory);
+ *   }
  *   while (number == 0) {
  *       number = second_passed() ? pins_due(&pins, FM3130_TICK) : pins_look(&pins);
  *   }
@@ -45,7 +47,7 @@ struct pins {
     uint8_t *memory; /* lent, 8,192 bytes */
     uint16_t line;   /* what fm3130_line told after the last event */
     uint8_t number;  /* 0, or why the device has left the bus */
-    uint8_t answer;  /* the last event's answer byte: the ACS pin's function, the alarm */
+    uint8_t answer;  /* the last event's: the ACS pin's function, the alarm; 1 if there was none */
     uint8_t scl;     /* the levels at the last look, 0 or 1; of SDA, while SCL was high */
     uint8_t sda;
     uint8_t is_open;    /* SCL has risen, and neither its fall nor a Start or Stop was seen */
@@ -55,7 +57,8 @@ struct pins {
 
 /*
  * Begins with a device in the two buffers, in the middle of a transfer too, and with SDA released.
- * A pulse under way is not counted. Returns 0, or 2 where the image is refused.
+ * A pulse under way is not counted. Returns 0, 2 where the image is refused, or PINS_LATE where SCL
+ * rose before SDA was pulled.
  */
 unsigned pins_begin(struct pins *pins, uint8_t *image, uint8_t *memory);
 

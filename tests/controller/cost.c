@@ -137,7 +137,7 @@ void set_sda(uint8_t level) {
 
 void due(uint8_t event) {
     if (pins.is_open) {
-        pins_due(&pins, event);
+        check_equal("pins_due", pins_due(&pins, event), FM3130_OK);
         ticks_waiting += event == FM3130_TICK;
     } else {
         measure(&rows[DUE], do_due, event);

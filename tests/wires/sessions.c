@@ -14,6 +14,8 @@ enum {
     CLOCK_WRITE = 0xD0,
     CLOCK_READ = 0xD1,
     LAMP = 0x10, /* the address's high byte of the lamps, 1000h */
+    PHASE_AT = 26,
+    SLAVE_BYTE = 1,
     CLOCKS_AT = 27,
     MARK_AT = 63
 };
@@ -456,6 +458,7 @@ static void check_spoilt(void) {
     check_left("a spoilt image", FM3130_WRONG_STATE);
     must_equal("begun on it", pins_begin(device(), device_image(), device_memory()),
                FM3130_WRONG_STATE);
+    must_equal("the answer of a refused begin", device()->answer, FM3130_ANSWER_LINE);
     device_image()[MARK_AT] ^= 1;
     must_equal("begun when mended", pins_begin(device(), device_image(), device_memory()),
                FM3130_OK);
@@ -466,7 +469,7 @@ static void check_unknown(void) {
     for (unsigned i = 0; i < sizeof unknown; i++) {
         wires_begin(AFTER_EACH, NEVER);
         may_leave();
-        pins_due(device(), unknown[i]);
+        must_equal("pins_due", pins_due(device(), unknown[i]), FM3130_UNKNOWN_EVENT);
         check_left("an event that is none of these", FM3130_UNKNOWN_EVENT);
     }
 }
@@ -484,7 +487,7 @@ static void check_late_tick(void) {
     must_equal("SDA for the year 99", sda_level(), 1);
     may_leave();
     set_scl_at(1, 2);
-    pins_due(device(), FM3130_TICK);
+    must_equal("pins_due", pins_due(device(), FM3130_TICK), PINS_LATE);
     check_left("a tick that took too long", PINS_LATE);
 }
 
@@ -497,7 +500,7 @@ static void check_late_look(void) {
     may_leave();
     pins_read_scl();
     set_scl_at(0, 3);
-    pins_look(device());
+    must_equal("pins_look", pins_look(device()), PINS_LATE);
     check_left("a pulse that was nearly missed", PINS_LATE);
 }
 
@@ -524,6 +527,39 @@ static void check_begun_again(void) {
     must_equal("SDA after the fall", sda_level(), 0);
 }
 
+/*
+ * Begun again inside a slave byte of which two clocks are done, while the master goes on to its next
+ * bit at one reading or another: no Start and no Stop comes of it. The first reading is SDA's
+ * release, the second is of SCL, and where it is high two more follow; a later change is for a look
+ * to see. Only a pulse that was there when SCL was first read is not counted.
+ */
+static void check_begun_meanwhile(uint8_t scl, uint8_t sda, unsigned reading) {
+    wires_begin(AFTER_EACH, NEVER);
+    master_starts();
+    master_hangs(MEMORY_WRITE, 2);
+    set_sda(sda);
+    set_scl(scl);
+    set_both_at(!scl, !sda, reading);
+    must_equal("begun meanwhile", pins_begin(device(), device_image(), device_memory()), FM3130_OK);
+    for (unsigned i = scl ? 4 : 2; i < reading; i++) {
+        must_equal("a look after the begin", pins_look(device()), FM3130_OK);
+    }
+    set_scl(scl);
+    set_scl(0);
+    must_equal("the phase after a begin meanwhile", device_image()[PHASE_AT], SLAVE_BYTE);
+    must_equal("the clocks after a begin meanwhile", device_image()[CLOCKS_AT],
+               2u + (scl || reading > 2));
+}
+
+static void check_all_begun_meanwhile(void) {
+    for (unsigned reading = 1; reading <= 6; reading++) {
+        for (uint8_t sda = 0; sda < 2; sda++) {
+            check_begun_meanwhile(0, sda, reading);
+            check_begun_meanwhile(1, sda, reading);
+        }
+    }
+}
+
 /* ---- all of it */
 
 void play_session(uint32_t stride) {
@@ -542,4 +578,5 @@ void play_leavings(void) {
     check_late_tick();
     check_late_look();
     check_begun_again();
+    check_all_begun_meanwhile();
 }

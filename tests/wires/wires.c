@@ -14,8 +14,9 @@ static struct {
     uint8_t scl, sda;         /* what the master does: 0 pulls, 1 releases */
     uint8_t is_pulled;        /* by the device */
     uint8_t may_leave;        /* the device may release SDA at any time */
-    unsigned readings;        /* of the device, until SCL is what it will be; 0 for none */
+    unsigned readings;        /* of the device, until the wires are what they will be; 0 for none */
     uint8_t scl_then;         /* and that is this */
+    uint8_t sda_then;
     uint8_t is_open;          /* SCL has risen, and it is not yet said what that meant */
     uint32_t places, tick_at; /* so far, and where the tick comes */
     uint32_t ticks;           /* of the reference in this session */
@@ -66,6 +67,7 @@ uint32_t chance(uint32_t mask) {
 static void pass(void) {
     if (wires.readings > 0 && --wires.readings == 0) {
         wires.scl = wires.scl_then;
+        wires.sda = wires.sda_then;
     }
 }
 
@@ -189,9 +191,14 @@ static void look(void) {
     }
 }
 
-void set_scl_at(uint8_t level, unsigned reading) {
-    wires.scl_then = level;
+void set_both_at(uint8_t scl, uint8_t sda, unsigned reading) {
+    wires.scl_then = scl;
+    wires.sda_then = sda;
     wires.readings = reading;
+}
+
+void set_scl_at(uint8_t level, unsigned reading) {
+    set_both_at(level, wires.sda, reading);
 }
 
 void set_scl(uint8_t level) {
@@ -213,7 +220,7 @@ void set_scl(uint8_t level) {
 }
 
 void set_sda(uint8_t level) {
-    wires.sda = level;
+    wires.sda = wires.sda_then = level;
     place();
     look();
     while (chance(3) == 0) {

@@ -49,6 +49,9 @@ uint8_t sda_level(void);
 /* The same, but the device has not looked yet: the change comes at its n-th reading. */
 void set_scl_at(uint8_t level, unsigned reading);
 
+/* Both wires by then, SDA turned while SCL was low: the master has gone on to another bit. */
+void set_both_at(uint8_t scl, uint8_t sda, unsigned reading);
+
 /* A number from 0 to a mask of low bits, the same in each run. */
 uint32_t chance(uint32_t mask);
 
