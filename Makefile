@@ -107,6 +107,7 @@ ctest: lib host ## the archives through the C headers (the official one too), th
 	@tests/c/alone.sh build/ctest/alone build/official/libfm3130.a $(CC_X86_64)
 	@tests/c/host.sh $(HOST) build/ctest/host
 	@tests/c/guide.sh build/ctest/guide $(CC) $(C99)
+	@tests/c/numbers.sh build/ctest $(CC) $(C99)
 	@$(FM3130) events $(SESSION) -o build/ctest/session.events
 	@cmp build/ctest/session.events build/ctest/host/session
 	@$(FM3130) run $(COUNTING) --part fm3164 --quiet --answers build/ctest/counting.answers

@@ -184,7 +184,10 @@ static int tell_step(const struct counting *counting, const struct step *step, F
     const uint8_t *counters =
         fm3164_view(counting->image, counting->memory, FM31_VIEW_REGISTERS,
                     FM31_PLACE(FM31_COUNTER_1_LOW), sizeof step->counters, &number);
-    int holds = number == FM31_OK && memcmp(counters, step->counters, sizeof step->counters) == 0;
+    if (number != FM31_OK) {
+        return 0;
+    }
+    int holds = memcmp(counters, step->counters, sizeof step->counters) == 0;
     holds = holds && counting->image[FM31_PLACE(FM31_CONTROL)] == step->control;
     holds = holds && counting->bit_count == 8 * step->read_count;
     for (size_t n = 0; n < counting->bit_count / 8; n++) {
@@ -199,9 +202,9 @@ static int tell_step(const struct counting *counting, const struct step *step, F
 }
 
 int counting_play(struct counting *counting, FILE *out) {
-    int all_hold = 1;
     memset(counting, 0, sizeof *counting);
-    fm31_fresh(counting->image, sizeof counting->image);
+    memset(counting->answers, FM31_ANSWER_LINE, sizeof counting->answers);
+    int all_hold = fm31_fresh(counting->image, sizeof counting->image) == FM31_OK;
     for (size_t i = 0; i < sizeof steps / sizeof steps[0]; i++) {
         size_t from = counting->count;
         counting->bit_count = 0;

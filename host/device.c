@@ -6,9 +6,17 @@
 #include <stdlib.h>
 #include <string.h>
 
+/* What is fresh or was tested is not refused. Were it all the same, nothing must be said of it. */
+static void must_be_done(const char *what, uint64_t number) {
+    if (number != FM3130_OK) {
+        fprintf(stderr, "fm3130-host: %s is refused: %s\n", what, number_words(number));
+        abort();
+    }
+}
+
 void device_fresh(struct device *device) {
     memset(device->memory, 0, sizeof device->memory);
-    fm3130_fresh(device->image, sizeof device->image);
+    must_be_done("a fresh device", fm3130_fresh(device->image, sizeof device->image));
 }
 
 uint64_t device_number(struct device *device) {
@@ -19,13 +27,10 @@ uint64_t device_number(struct device *device) {
 }
 
 struct told device_step(struct device *device, uint8_t event) {
-    uint8_t told[FM3130_TOLD_BYTES] = {0, 0};
-    uint64_t number = fm3130_step(device->image, sizeof device->image, device->memory,
-                                  sizeof device->memory, event, told, sizeof told);
-    if (number != FM3130_OK) {
-        fprintf(stderr, "fm3130-host: a tested device is refused: %s\n", number_words(number));
-        abort();
-    }
+    uint8_t told[FM3130_TOLD_BYTES] = {FM3130_ANSWER_LINE, FM3130_ROLLED_NOTHING};
+    must_be_done("a tested device",
+                 fm3130_step(device->image, sizeof device->image, device->memory,
+                             sizeof device->memory, event, told, sizeof told));
     return (struct told){told[0], told[1]};
 }
 

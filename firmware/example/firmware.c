@@ -103,8 +103,10 @@ static void stop(unsigned number) {
 }
 
 void firmware_begin(void) {
-    fm3130_fresh(image, sizeof image);
-    unsigned number = pins_begin(&pins, image, memory);
+    unsigned number = (unsigned)fm3130_fresh(image, sizeof image);
+    if (number == FM3130_OK) {
+        number = pins_begin(&pins, image, memory);
+    }
     if (number != FM3130_OK) {
         stop(number);
     }

@@ -74,7 +74,7 @@ static void put_body(const struct entry *entry) {
     uint8_t *body = file + entry->offset;
     switch (entry->kind) {
     case FM3130_CAPTURE_IMAGE:
-        fm3130_fresh(body, FM3130_IMAGE_BYTES);
+        check_equal("fm3130_fresh", fm3130_fresh(body, FM3130_IMAGE_BYTES), FM3130_OK);
         break;
     case FM3130_CAPTURE_MEMORY:
         memset(body, 0x3C, FM3130_MEMORY_BYTES);

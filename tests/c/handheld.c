@@ -16,7 +16,7 @@ static uint8_t bus[2], image[FM3130_IMAGE_BYTES], memory[FM3130_MEMORY_BYTES], a
 static void begin(uint8_t holder) {
     bus[0] = holder;
     bus[1] = FILL;
-    fm3130_fresh(image, sizeof image);
+    check_equal("fm3130_fresh", fm3130_fresh(image, sizeof image), FM3130_OK);
     memset(memory, 0x3C, sizeof memory);
     memset(answers, FILL, sizeof answers);
 }
@@ -79,8 +79,11 @@ static void check_call(uint8_t holder, uint64_t master, const uint8_t *events, u
     memcpy(alone_memory, memory, sizeof memory);
     memcpy(alone_answers, answers, sizeof answers);
     if (answered) {
-        fm3130_run(alone_image, sizeof image, alone_memory, sizeof memory, events, count,
-                   alone_answers, sizeof alone_answers);
+        check_equal("run: number",
+                    fm3130_run(alone_image, sizeof image, alone_memory, sizeof memory, events,
+                               count, alone_answers, sizeof alone_answers)
+                        .number,
+                    FM3130_OK);
     }
     struct fm3130_ran ran = call(master, events, count);
     check_equal("call: number", ran.number, answered ? FM3130_OK : FM3130_NOT_HELD);

@@ -119,7 +119,7 @@ static void check_round_trip(uint64_t address, uint64_t count) {
 
 static void check_round_trips(void) {
     static const uint64_t addresses[] = {0x0000, 0x07FF, 0x1000, 0x1F80, 0x1FFE, 0x1FFF};
-    fm3130_fresh(image, sizeof image);
+    check_equal("fm3130_fresh", fm3130_fresh(image, sizeof image), FM3130_OK);
     for (uint64_t count = 0; count <= MOST; count++) {
         for (size_t i = 0; i < sizeof addresses / sizeof addresses[0]; i++) {
             check_round_trip(addresses[i], count);
@@ -131,11 +131,12 @@ static void check_round_trips(void) {
 static void check_protected(void) {
     static const uint8_t bytes[] = {1, 2, 3, 4};
     uint8_t flags[sizeof bytes];
-    fm3130_fresh(image, sizeof image);
+    check_equal("fm3130_fresh", fm3130_fresh(image, sizeof image), FM3130_OK);
     image[0x0E] = 0x08;
     memset(memory, 0x77, sizeof memory);
     struct fm3130_filled sent =
         fm3130_write_events(0x1FFE, bytes, sizeof bytes, events, sizeof events);
+    check_filled("protected: write", sent, FM3130_MASTER_OK, FM3130_WRITE_EVENTS(sizeof bytes));
     run(sent.count);
     check_filled("protected: flags",
                  fm3130_write_told(sizeof bytes, answers, sent.count, flags, sizeof flags),
@@ -164,7 +165,9 @@ static void check_unacknowledged(void) {
                      FM3130_MASTER_OK, 0);
         check_left("unacknowledged: read", got, 0, sizeof got);
         if (ninths[i] < FM3130_WRITE_EVENTS(0)) {
-            fm3130_write_told(1, answers, FM3130_WRITE_EVENTS(1), &flag, 1);
+            check_filled("unacknowledged: write",
+                         fm3130_write_told(1, answers, FM3130_WRITE_EVENTS(1), &flag, 1),
+                         FM3130_MASTER_OK, 1);
             check_equal("unacknowledged: flag", flag, 0);
         }
     }

@@ -95,7 +95,7 @@ static void check_image(const char *what) {
 
 /* An image in the middle of a transfer, with these bytes in registers and core. */
 static void begin(const uint8_t *time, const uint8_t *core) {
-    fm3130_fresh(image, sizeof image);
+    check_equal("fm3130_fresh", fm3130_fresh(image, sizeof image), FM3130_OK);
     image[0] = 0x42;
     image[9] = 0xFF;
     image[14] = 0x98;

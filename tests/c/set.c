@@ -51,7 +51,8 @@ static void make_set(uint64_t devices) {
     for (int place = 0; place < FM31_SET_MOST; place++) {
         int is_on = (uint64_t)place < devices;
         uint64_t size = plan[place] & 4 ? FM31256_MEMORY_BYTES : FM3164_MEMORY_BYTES;
-        fm31_fresh(set.images + place * FM31_IMAGE_BYTES, FM31_IMAGE_BYTES);
+        check_equal("fm31_fresh",
+                    fm31_fresh(set.images + place * FM31_IMAGE_BYTES, FM31_IMAGE_BYTES), FM31_OK);
         set.lengths[place] = is_on ? size : 0;
     }
     count = 0;

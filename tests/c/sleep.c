@@ -45,7 +45,7 @@ static const uint64_t counts[] = {0, 1, 2, 59, 60, 61, 3600, 43200, 86399, 86400
 static uint64_t catch_up(uint64_t count) { return fm3130_catch_up(image, sizeof image, count); }
 
 static void begin(const uint8_t *core, const uint8_t *alarm, uint8_t control) {
-    fm3130_fresh(image, sizeof image);
+    check_equal("fm3130_fresh", fm3130_fresh(image, sizeof image), FM3130_OK);
     image[CONTROL] = control;
     image[TRIM] = 0;
     memcpy(image + ALARM, alarm, 5);
@@ -78,7 +78,7 @@ static void check_against_lists(void) {
     begin(cores[0], alarms[0], 0);
     image[POWER] = 1;
     check_as_list("catching up on backup", 86400);
-    fm3130_fresh(image, sizeof image);
+    check_equal("fm3130_fresh", fm3130_fresh(image, sizeof image), FM3130_OK);
     image[POWER] = 2;
     check_as_list("catching up without supply", 86400);
 }

@@ -39,7 +39,7 @@ static uint64_t step(uint64_t event, uint64_t told_length) {
 
 /* A fresh device whose oscillator runs. */
 static void begin(void) {
-    fm3130_fresh(image, sizeof image);
+    check_equal("fm3130_fresh", fm3130_fresh(image, sizeof image), FM3130_OK);
     image[1] = 0;
     memset(memory, 0x3C, sizeof memory);
     memset(told, FILL, sizeof told);

@@ -1,0 +1,37 @@
+#!/usr/bin/env bash
+# SPDX-License-Identifier: Apache-2.0
+# numbers.sh FOLDER COMPILER...: no C of ours drops a number. A header made of the declarations of the entries has the
+# compiler refuse a call whose number nobody looks at; the host, the firmware, the tests and the guide's programs, which
+# guide.sh has left in FOLDER/guide, are compiled with it.
+set -euo pipefail
+
+folder=$1/numbers
+guide=$1/guide
+shift
+rm -rf "$folder"
+mkdir -p "$folder"
+declared='^(uint64_t|unsigned|struct [a-z0-9_]+) ((fm31|pins)[a-z0-9_]*)\(.*'
+{
+    printf '#include "%s"\n' fm3130.h fm31.h pins.h
+    echo '#define LOOKED_AT(entry) extern __typeof__(entry) entry __attribute__((warn_unused_result))'
+    sed -nE "s/$declared/LOOKED_AT(\2);/p" include/fm3130.h include/fm31.h firmware/pins.h
+} >"$folder/numbers.h"
+entries=$(grep -c '^LOOKED_AT' "$folder/numbers.h")
+
+compiles() { # FILE COMPILER...
+    local file=$1
+    shift
+    "$@" -D_POSIX_C_SOURCE=200809L -Ifirmware -Itests/wires -include "$folder/numbers.h" -c "$file" -o /dev/null
+}
+
+printf 'void drop(uint8_t *image);\nvoid drop(uint8_t *image) {\n    fm3130_fresh(image, 64);\n}\n' >"$folder/drop.c"
+if [ "$entries" -lt 30 ] || compiles "$folder/drop.c" "$@" 2>/dev/null; then
+    echo "numbers.sh: a dropped number is not refused; $entries entries were found" >&2
+    exit 1
+fi
+files=0
+for file in host/*.c firmware/*.c firmware/example/firmware.c tests/wires/*.c tests/c/*.c "$guide"/*.c; do
+    compiles "$file" "$@" || { echo "numbers.sh: $file: see above" >&2; exit 1; }
+    files=$((files + 1))
+done
+echo "ctest: no number of $entries entries is dropped in $files files"
