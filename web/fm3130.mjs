@@ -93,6 +93,9 @@ const MOST_CHANGES = 7;
 /** The number by which the proposer of trim settings refuses. */
 const TRIM_REFUSED = 64;
 
+/** An answer before it is written, and that of a refused event: the line high, which acknowledges nothing. */
+const UNANSWERED = 1;
+
 /** The Clock with the master's line at a level. */
 export function clock(isHigh) {
   return isHigh ? event.CLOCK_HIGH : event.CLOCK_LOW;
@@ -114,9 +117,18 @@ function word(number) {
   return BigInt.asUintN(64, BigInt(number));
 }
 
-/** An outcome: a number, its words by a table, and what else the call gives. */
+/**
+ * An outcome: a number, its words by a table, and what else the call gives. A number that the table has not is none of
+ * the module's; its words say so, since 0 alone may have none.
+ */
 function outcome(table, number, rest) {
-  return { number, words: table[number] ?? '', ...rest };
+  const otherwise = number === 0 ? '' : 'a number that is none';
+  return { number, words: table[number] ?? otherwise, ...rest };
+}
+
+/** Room for the answers to a list of events. */
+function roomForAnswers(events) {
+  return new Uint8Array(events.length).fill(UNANSWERED);
 }
 
 /**
@@ -172,9 +184,10 @@ class Entries {
     return Number(returned);
   }
 
-  /** Calls an entry that returns a struct of two words. */
+  /** Calls an entry that returns a struct of two words. Before they are written they are no number of a table. */
   pair(name, ...given) {
     const placed = this.#place(given);
+    new BigInt64Array(this.exports.memory.buffer, this.base, 2).set([-1n, 0n]);
     this.exports[name](this.base, ...placed.words);
     this.#takeBack(placed);
     const words = new BigUint64Array(this.exports.memory.buffer, this.base, 2);
@@ -231,7 +244,10 @@ export class StandIn {
   /** A fresh device; its memory is all 0. */
   fresh() {
     const image = new Uint8Array(IMAGE_BYTES);
-    this.#entries.word('fm3130_fresh', new Written(image)); // number 0 for every image of 64 bytes
+    const number = this.#entries.word('fm3130_fresh', new Written(image)); // 0 for every image of 64 bytes
+    if (number !== 0) {
+      throw new Error(`the module refuses a fresh image by number ${number}`);
+    }
     return new Device(this.#entries, image, new Uint8Array(MEMORY_BYTES));
   }
 
@@ -341,7 +357,7 @@ export class Device {
     if (list === null) {
       return outcome(REFUSALS, 3, { answers: new Uint8Array() });
     }
-    const answers = new Uint8Array(list.length);
+    const answers = roomForAnswers(list);
     const [number, count] = this.#entries.pair(
       'fm3130_run', new Written(this.image), new Written(this.memory), list, new Written(answers));
     return outcome(REFUSALS, number, { answers: answers.subarray(0, count) });
@@ -353,7 +369,7 @@ export class Device {
    * changed: 0 nothing, 1 seconds, 2 minutes, 3 hours, 4 date, 5 month, 6 year. Under a refusal answer is 1.
    */
   step(one) {
-    const told = new Uint8Array([1, 0]);
+    const told = new Uint8Array([UNANSWERED, 0]);
     const number = this.#entries.word('fm3130_step', new Written(this.image), new Written(this.memory),
       word(one), new Written(told));
     return outcome(REFUSALS, number, { answer: told[0], rolled: told[1] });
@@ -376,7 +392,7 @@ export class Device {
     if (list === null) {
       return outcome(REFUSALS, 3, { answers: new Uint8Array() });
     }
-    const answers = new Uint8Array(list.length);
+    const answers = roomForAnswers(list);
     const [number, count] = this.#entries.pair('fm3130_call', new Written(bus), word(one), new Written(this.image),
       new Written(this.memory), list, new Written(answers));
     return outcome(REFUSALS, number, { answers: answers.subarray(0, count) });
@@ -391,7 +407,7 @@ export class Device {
     if (list === null) {
       return outcome(REFUSALS, 3, { answers: new Uint8Array(), report: 0 });
     }
-    const answers = new Uint8Array(list.length);
+    const answers = roomForAnswers(list);
     const [number, report] = this.#entries.pair('fm3130_lamps', new Written(this.image), new Written(this.memory),
       list, new Written(answers), new Written(record));
     return outcome(REFUSALS, number, { answers: number === 0 ? answers : new Uint8Array(), report });

@@ -1,11 +1,28 @@
 // SPDX-License-Identifier: Apache-2.0
 /**
  * A device, what has happened to it since it began, and a script that is played on it: by events, by bytes, or to the
- * end. Events can also be done by hand between those of the script.
+ * end. Events can also be done by hand between those of the script. A device that refuses an event is thrown as
+ * Refused.
  */
 import { event, MOST_TICKS, RECORD_BYTES } from './fm3130.mjs';
 import { Grouping } from './happenings.mjs';
 import { isSamePin, pinOf, stateOf } from './state.mjs';
+
+/** A call that the device refused: it did nothing, and what the call gave back is no answer. */
+export class Refused extends Error {
+  constructor({ number, words }) {
+    super(`the device refuses: ${words} (number ${number})`);
+    this.number = number;
+  }
+}
+
+/** What a call gave that was done; one that was refused is thrown. */
+export function done(outcome) {
+  if (outcome.number !== 0) {
+    throw new Refused(outcome);
+  }
+  return outcome;
+}
 
 /** After so many ticks without another event a proving record changes no more: the third darkens every lamp. */
 export const FEW_TICKS = 8;
@@ -127,7 +144,7 @@ export class Player {
       this.#oneTick();
     } else {
       const before = this.state;
-      const { answers, report } = this.device.lamps(this.record, [one]);
+      const { answers, report } = done(this.device.lamps(this.record, [one]));
       this.lamps = report;
       this.grouping.moment({ event: one, answer: answers[0], before, after: this.state, lamps: report });
     }
@@ -137,7 +154,7 @@ export class Player {
   #oneTick() {
     this.#lampsAfter(1);
     const before = this.state;
-    const { rolled } = this.device.step(event.TICK);
+    const { rolled } = done(this.device.step(event.TICK));
     const after = this.state;
     const pin = pinOf(after);
     const pinChanges = isSamePin(pinOf(before), pin) ? [] : [{ tick: 1, pin }];
@@ -147,7 +164,7 @@ export class Player {
   /** Lets the record see ticks that are still to be done; it follows on a copy. After a few it stays as it is. */
   #lampsAfter(ticks) {
     const list = Array(Math.min(ticks, FEW_TICKS)).fill(event.TICK);
-    this.lamps = this.device.clone().lamps(this.record, list).report;
+    this.lamps = done(this.device.clone().lamps(this.record, list)).report;
   }
 
   #advance(count) {
@@ -163,7 +180,7 @@ export class Player {
 /** Does ticks at once, and finds what an observer of the single ticks would have seen. */
 function sleepThrough(device, count) {
   const asleep = device.clone();
-  device.catchUp(count);
+  done(device.catchUp(count));
   const [before, after] = [stateOf(asleep.image), stateOf(device.image)];
   const pin = pinOf(after);
   const pinChanges = isSamePin(pinOf(before), pin) ? [] : [{ tick: pinChange(asleep, count, pin), pin }];
@@ -179,7 +196,7 @@ function pinChange(asleep, count, last) {
   while (after - before > 1) {
     const middle = before + Math.floor((after - before) / 2);
     const device = asleep.clone();
-    device.catchUp(middle);
+    done(device.catchUp(middle));
     if (isSamePin(pinOf(stateOf(device.image)), last)) {
       after = middle;
     } else {

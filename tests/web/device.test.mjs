@@ -6,7 +6,7 @@ import { join } from 'node:path';
 import { test } from 'node:test';
 
 import {
-  event, IMAGE_BYTES, load, MEMORY_BYTES, MOST_TICKS, readByte, REFUSALS, selector, TRIM_VERDICTS, writtenByte,
+  event, IMAGE_BYTES, load, MEMORY_BYTES, MOST_TICKS, readByte, REFUSALS, selector, StandIn, TRIM_VERDICTS, writtenByte,
 } from '../../web/fm3130.mjs';
 import { MODULE, Random, standIn, TOP } from './support.mjs';
 
@@ -209,4 +209,39 @@ test('the module can be loaded from a file beside it or from a URL', async () =>
   assert.equal((await load(url)).fresh().image.length, IMAGE_BYTES);
   const bytes = (await load(new Response(MODULE))).fresh().memory;
   assert.equal(bytes.length, MEMORY_BYTES);
+});
+
+/** A module with these entries, which do nothing and give nothing back. */
+function silentModule(...names) {
+  const text = (word) => [word.length, ...Buffer.from(word)];
+  const section = (kind, bytes) => [kind, bytes.length, ...bytes];
+  const exported = [
+    ...text('memory'), 2, 0, ...text('__heap_base'), 3, 0, ...names.flatMap((name) => [...text(name), 0, 0])];
+  return Uint8Array.from([
+    0, 0x61, 0x73, 0x6D, 1, 0, 0, 0,
+    ...section(1, [1, 0x60, 0, 0]), // one type of function, without words in or out
+    ...section(3, [1, 0]),
+    ...section(5, [1, 0, 1]), // a page of memory
+    ...section(6, [1, 0x7F, 0, 0x41, 0x80, 0x08, 0x0B]), // __heap_base is 1024
+    ...section(7, [2 + names.length, ...exported]),
+    ...section(10, [1, 2, 0, 0x0B]),
+  ]);
+}
+
+test('what was not answered is not taken for done', async () => {
+  const silent = await load(silentModule('fm3130_run', 'fm3130_judge'));
+  const { image, memory } = standIn.fresh();
+  const made = silent.fromParts(image, memory);
+  assert.notEqual(made.number, 0);
+  assert.deepEqual([made.words, made.device], ['a number that is none', null]);
+  assert.notEqual(silent.judge([]).number, 0);
+});
+
+test('a number that no table has is a refusal with words', () => {
+  const odd = new StandIn({ word: () => 99, pair: () => [99, 0] });
+  const { image, memory } = standIn.fresh();
+  assert.deepEqual(odd.fromParts(image, memory), { number: 99, words: 'a number that is none', device: null });
+  assert.equal(odd.writeEvents(0, [1]).words, 'a number that is none');
+  assert.equal(odd.trimCheck(0, 0, 0).words, 'a number that is none');
+  assert.throws(() => odd.fresh(), /refuses a fresh image by number 99/);
 });

@@ -5,7 +5,7 @@
  */
 import { event, load } from '../fm3130.mjs';
 import { drawingOf, MOST_CELLS } from '../drawing.mjs';
-import { Player } from '../player.mjs';
+import { done, Player, Refused } from '../player.mjs';
 import { registerName } from '../registers.mjs';
 import { linesOf, planOfText, Problem, totalOf } from '../script.mjs';
 import { busWords, phase } from '../state.mjs';
@@ -54,8 +54,21 @@ class Page {
   /** Does something to the device, and shows what came of it. */
   do(act) {
     this.remember();
-    act();
+    this.unlessRefused(act);
     this.show();
+  }
+
+  /** What an act gives; nothing if the device refuses it, which is said. */
+  unlessRefused(act) {
+    try {
+      return act();
+    } catch (refused) {
+      if (!(refused instanceof Refused)) {
+        throw refused;
+      }
+      this.say(refused.message, true);
+      return undefined;
+    }
   }
 
   /** Whether the device would pull SDA at the next Clock, by trial on a copy. */
@@ -117,7 +130,7 @@ class Page {
     this.isStopped = false;
     this.remember();
     let drawn = performance.now();
-    while (!this.isStopped && this.player.someEvents()) {
+    while (!this.isStopped && this.unlessRefused(() => this.player.someEvents())) {
       if (performance.now() - drawn > PATIENCE) {
         this.showProgress();
         await new Promise((resolve) => { setTimeout(resolve); });
@@ -140,7 +153,10 @@ class Page {
   /** Puts the calendar right, and begins with the device as it is then. */
   mend() {
     const device = this.player.device.clone();
-    const { changes } = device.mend();
+    const changes = this.unlessRefused(() => done(device.mend()).changes);
+    if (changes === undefined) {
+      return;
+    }
     const listed = changes.map(({ register, before, after }) =>
       `${registerName(register)} ${byteWords(before)}h to ${byteWords(after)}h`);
     const isCoreAlone = listed.length === 0 && !device.image.every((byte, at) => byte === this.player.device.image[at]);
@@ -296,7 +312,7 @@ function connectScript(page) {
 
 /** What the judge says of a capture. */
 function verdictOf({ number, words, place }) {
-  return [`all agree: ${place} answers`, `answer ${place} differs`, `entry ${place} is faulty`, words][number];
+  return [`all agree: ${place} answers`, `answer ${place} differs`, `entry ${place} is faulty`][number] ?? words;
 }
 
 function connectFiles(page) {
