@@ -160,7 +160,7 @@ fn has_select_bits(word: &OsStr) -> bool {
 }
 
 /// The size and the select bits of a device of a set.
-fn member_of(word: &OsStr) -> Outcome<(Size, Select)> {
+pub fn member_of(word: &OsStr) -> Outcome<(Size, Select)> {
     let word = word.to_string_lossy();
     let Some((part, select)) = word.split_once('@') else {
         return Err(wrong(format!(

@@ -292,6 +292,145 @@ fn files_that_are_of_no_set_are_refused_and_stay() {
     assert!(errors.contains("(number 11)"), "{errors}");
 }
 
+/// A locked serial number of the device at the first place, and a byte in the memory of the second.
+const LOCKED: &str = "[ D2 11 4C 41 4D 50 ] [ D2 0B 80 ] [ A4 00 10 5A ]";
+
+#[test]
+fn files_say_which_device_is_which() {
+    let folder = Folder::new("set-plan");
+    let files = ["--image", "images", "--memory", "memories"];
+    let (one, two) = (["--part", "fm31256@1"], ["--part", "fm3164@2"]);
+    let words = [&["run", "-"], &files[..], &one, &two].concat();
+    let ran = folder.run_with(&words, LOCKED);
+    assert_eq!(ran.code, 0, "{}", ran.errors);
+    for name in ["images.plan", "memories.plan"] {
+        assert_eq!(folder.read(name), b"fm31256@1\nfm3164@2\n");
+    }
+    assert!(!folder.run_with(&words, "").output.contains("plan"));
+
+    // In another order the second device would take over the locked serial number of the first.
+    let before = [folder.read("images"), folder.read("memories")];
+    for (parts, given) in [
+        ([&two[..], &one].concat(), "fm3164@2, fm31256@1"),
+        (
+            [&one[..], &["--part", "fm3164@3"]].concat(),
+            "fm31256@1, fm3164@3",
+        ),
+        (one.to_vec(), "fm31256@1"),
+        (vec!["--part", "fm31256"], "fm31256"),
+        (vec![], "fm3130"),
+    ] {
+        for file in [&files[..2], &files[2..]] {
+            let (path, words) = (file[1], [&["run", "-"], file, &parts[..]].concat());
+            let (code, errors) = failed(&folder, &words, "[ ]");
+            let message = format!(
+                "{path}: {path}.plan says that it holds fm31256@1, fm3164@2; the command line has {given}\n"
+            );
+            assert_eq!(code, 4, "{errors}");
+            assert!(errors.ends_with(&message), "{message}: {errors}");
+        }
+    }
+    assert_eq!([folder.read("images"), folder.read("memories")], before);
+}
+
+#[test]
+fn files_without_a_plan_are_taken_and_said_so() {
+    let folder = Folder::new("set-older");
+    let set = Set::new([
+        Member::fresh(Size::Kb256, Select::TWO),
+        Member::fresh(Size::Kb64, Select::ZERO),
+    ]);
+    let members = set.unwrap().into_members();
+    let images: Vec<u8> = members.iter().flat_map(|one| *one.image()).collect();
+    folder.write("images", &images);
+    let ran = folder.run_with(&with_files(&["run", "-"]), "c1@0");
+    assert_eq!(ran.code, 0, "{}", ran.errors);
+    let line = "images: no plan beside it, taken as fm31256@2, fm3164@0\n";
+    assert!(ran.output.starts_with(line), "{}", ran.output);
+    assert!(!ran.output.contains("memories: no plan"), "{}", ran.output);
+    // From now on there is one.
+    assert_eq!(folder.read("images.plan"), b"fm31256@2\nfm3164@0\n");
+    let ran = folder.run_with(&with_files(&["run", "-"]), "c1@0");
+    assert!(!ran.output.contains("no plan"), "{}", ran.output);
+    // Quietly it is taken too.
+    fs::remove_file(folder.file("images.plan")).unwrap();
+    let ran = folder.run_with(&with_files(&["run", "-", "--quiet"]), "c1@0");
+    assert_eq!((ran.code, ran.output.as_str()), (0, ""), "{}", ran.errors);
+}
+
+#[cfg(unix)]
+#[test]
+fn a_plan_stands_beside_the_file_that_a_link_leads_to() {
+    let folder = Folder::new("set-link");
+    fs::create_dir(folder.file("kept")).unwrap();
+    let run = |path: &str, part: &str| {
+        let words = ["run", "-", "--quiet", "--image", path, "--part", part];
+        folder.run_with(&words, "").code
+    };
+    assert_eq!(run("kept/image", "fm3164@1"), 0);
+    std::os::unix::fs::symlink("kept/image", folder.file("link")).unwrap();
+    assert_eq!((run("link", "fm3164@2"), run("link", "fm3164@1")), (4, 0));
+    assert!(folder.file("link").is_symlink() && !folder.file("link.plan").exists());
+}
+
+#[test]
+fn a_plan_that_is_none_is_refused() {
+    let folder = Folder::new("set-no-plan");
+    let words = with_files(&["run", "-", "--quiet"]);
+    assert_eq!(folder.run_with(&words, "c1@0").code, 0);
+    let before = folder.read("images");
+    for (text, message) in [
+        ("", "images.plan: no plan of a set, it is empty"),
+        (
+            "fm31256@2\nfm3164\n",
+            "images.plan: no plan of a set, \"fm3164\" is no device such as fm3164@2",
+        ),
+        ("\u{1}\u{2}", "is no device such as fm3164@2"),
+    ] {
+        folder.write("images.plan", text.as_bytes());
+        let (code, errors) = failed(&folder, &words, "c1@0");
+        assert_eq!(code, 4, "{errors}");
+        assert!(errors.contains(message), "{message}: {errors}");
+        assert_eq!(folder.read("images.plan"), text.as_bytes());
+        assert_eq!(folder.read("images"), before);
+    }
+    // It may be written by hand, in the words that the command takes.
+    folder.write("images.plan", b"FM31256@2\r\n fm3164@0");
+    assert_eq!(folder.run_with(&words, "c1@0").code, 0);
+    assert_eq!(folder.read("images.plan"), b"fm31256@2\nfm3164@0\n");
+}
+
+#[test]
+fn a_plan_is_a_file_that_nothing_else_may_be() {
+    let folder = Folder::new("set-plan-named");
+    for (option, other) in [("--answers", "images.plan"), ("--svg", "memories.plan")] {
+        let words = [&with_files(&["run", "-"])[..], &[option, other]].concat();
+        let (code, errors) = failed(&folder, &words, "[ ]");
+        assert_eq!(code, 2, "{errors}");
+        let message = format!("name one file: {other}");
+        assert!(errors.contains(&message), "{errors}");
+    }
+    // A plan that cannot be written leaves everything as it was.
+    fs::create_dir(folder.file("images.plan")).unwrap();
+    let (code, errors) = failed(&folder, &with_files(&["run", "-", "--quiet"]), "[ ]");
+    assert_eq!(code, 1, "{errors}");
+    assert!(!folder.file("images").exists() && !folder.file("memories").exists());
+}
+
+#[test]
+fn a_set_of_one_with_select_bits_0_is_a_part_by_itself() {
+    let folder = Folder::new("set-alone");
+    let image = ["run", "-", "--quiet", "--image", "image", "--part"];
+    let run = |part: &str| folder.run_with(&[&image[..], &[part]].concat(), "").code;
+    assert_eq!(run("fm3164@0"), 0);
+    assert_eq!((run("fm3164"), run("fm3164@0")), (0, 0));
+    assert_eq!((run("fm31256"), run("fm3164@1"), run("fm3130")), (4, 4, 4));
+    let fresh = ["fresh", "--force", "--image", "image", "--part", "fm31256"];
+    let (code, errors) = failed(&folder, &fresh, "");
+    assert_eq!(code, 4, "{errors}");
+    assert!(errors.contains("holds fm3164@0; the command line has fm31256"));
+}
+
 #[test]
 fn events_of_a_set_go_to_a_file_and_back() {
     let folder = Folder::new("set-events");

@@ -18,7 +18,8 @@ const OPTIONS: Options = Options {
 pub fn command(words: Vec<OsString>) -> Outcome {
     let arguments = Arguments::sort(words, &OPTIONS)?;
     arguments.at_most(0)?;
-    let device = Chip::fresh(arguments.part()?);
+    let part = arguments.part()?;
+    let device = Chip::fresh(part);
     let wanted: Vec<(&str, PathBuf, &[u8])> =
         [("--image", device.image()), ("--memory", device.memory())]
             .into_iter()
@@ -34,6 +35,7 @@ pub fn command(words: Vec<OsString>) -> Outcome {
     files::must_differ(&named)?;
     for (_, path, _) in &wanted {
         may_be_written(path, arguments.has("--force"))?;
+        files::must_hold_one(path, part)?;
     }
     let mut replacements = Vec::new();
     for (_, path, bytes) in &wanted {

@@ -55,7 +55,7 @@ pub fn command(words: Vec<OsString>) -> Outcome {
         return run_set::command(&arguments, script, &members);
     }
     let part = arguments.part()?;
-    test_files(&arguments, script.as_deref())?;
+    test_files(&arguments, script.as_deref(), &[])?;
     test_capture(&arguments, part)?;
     let (mut source, title) = open_source(script, arguments.path("--events"), part)?;
     let is_quiet = arguments.has("--quiet");
@@ -114,8 +114,12 @@ fn too_long(total: u64) -> Failure {
     ))
 }
 
-/// Refuses a command line in which two words name one file.
-pub(super) fn test_files(arguments: &Arguments, script: Option<&Path>) -> Outcome {
+/// Refuses a command line in which two words name one file. Plans are files that no word names.
+pub(super) fn test_files(
+    arguments: &Arguments,
+    script: Option<&Path>,
+    plans: &[(&'static str, PathBuf)],
+) -> Outcome {
     let paths: Vec<(&str, PathBuf)> = FILES
         .into_iter()
         .filter_map(|option| Some((option, arguments.path(option)?)))
@@ -128,11 +132,8 @@ pub(super) fn test_files(arguments: &Arguments, script: Option<&Path>) -> Outcom
             path,
         })
         .collect();
-    named.extend(
-        paths
-            .iter()
-            .map(|(option, path)| NamedFile { option, path }),
-    );
+    let all = paths.iter().chain(plans);
+    named.extend(all.map(|(option, path)| NamedFile { option, path }));
     files::must_differ(&named)
 }
 
@@ -172,9 +173,11 @@ fn load_device(
     let mut image = fresh.image().to_vec();
     let mut memory = fresh.memory().to_vec();
     if let Some(path) = arguments.path("--image") {
+        files::must_hold_one(&path, part)?;
         image = told(files::load_image(&path, part)?, &path, is_quiet, output)?;
     }
     if let Some(path) = arguments.path("--memory") {
+        files::must_hold_one(&path, part)?;
         memory = told(files::load_memory(&path, part)?, &path, is_quiet, output)?;
     }
     Chip::from_parts(part, &image, &memory).map_err(|refusal| Failure::Refused(refusal.to_string()))

@@ -30,7 +30,7 @@ pub fn command(
     members: &[(Size, Select)],
 ) -> Outcome {
     test_options(arguments)?;
-    test_files(arguments, script.as_deref())?;
+    test_files(arguments, script.as_deref(), &plans_of(arguments))?;
     let is_quiet = arguments.has("--quiet");
     let mut output = Output::new();
     test_members(members)?;
@@ -44,6 +44,19 @@ pub fn command(
     }
     output.finish()?;
     targets.commit(&set)
+}
+
+/// The options that name a file of a set, and what its plan is called where two files are one.
+const WITH_PLAN: [(&str, &str); 2] = [
+    ("--image", "the plan of --image"),
+    ("--memory", "the plan of --memory"),
+];
+
+/// The plans beside the files of a set, with what they are called.
+fn plans_of(arguments: &Arguments) -> Vec<(&'static str, PathBuf)> {
+    let named = WITH_PLAN.into_iter();
+    let beside = |(option, name)| Some((name, files::plan_beside(&arguments.path(option)?)));
+    named.filter_map(beside).collect()
 }
 
 /// Refuses options that are for one device.
@@ -105,7 +118,10 @@ fn load_set(
     let mut load = |option: &str, fresh: Vec<u8>| match arguments.path(option) {
         None => Ok(fresh),
         Some(path) => {
-            let loaded = files::load_of_set(&path, &fresh, members.len())?;
+            let loaded = files::load_of_set(&path, &fresh, members)?;
+            if !loaded.is_fresh && !is_quiet {
+                say_if_there_is_no_plan(&path, members, output)?;
+            }
             told(loaded, &path, is_quiet, output)
         }
     };
@@ -115,6 +131,22 @@ fn load_set(
         Some(path) => Failure::Refused(refused_in(&path, &words)),
         None => Failure::Refused(words),
     })
+}
+
+/// A file from before there were plans is taken as the command line has it.
+fn say_if_there_is_no_plan(
+    path: &Path,
+    members: &[(Size, Select)],
+    output: &mut Output,
+) -> Outcome {
+    match files::has_plan(path)? {
+        true => Ok(()),
+        false => output.line(&format!(
+            "{}: no plan beside it, taken as {}",
+            path.display(),
+            files::plan_words(members).join(", ")
+        )),
+    }
 }
 
 fn refused_in(path: &Path, words: &str) -> String {
@@ -148,6 +180,8 @@ fn all_memories(members: &[Member]) -> Vec<u8> {
 struct Targets {
     images: Option<Replacement>,
     memories: Option<Replacement>,
+    /// Beside each of the two.
+    plans: Vec<Replacement>,
     answers: Option<Replacement>,
     vcd: Option<Replacement>,
     svg: Option<Replacement>,
@@ -161,9 +195,13 @@ impl Targets {
             let path = arguments.path(option);
             path.map(|path| Replacement::open(&path)).transpose()
         };
+        let plans = plans_of(arguments).into_iter();
         Ok(Targets {
             images: open("--image")?,
             memories: open("--memory")?,
+            plans: plans
+                .map(|(_, path)| Replacement::open(&path))
+                .collect::<Outcome<_>>()?,
             answers: open("--answers")?,
             vcd: open("--vcd")?,
             svg: open("--svg")?,
@@ -179,9 +217,21 @@ impl Targets {
         if let Some(file) = &mut self.memories {
             file.write(&all_memories(set.members()))?;
         }
-        let all = [self.images, self.memories, self.answers, self.vcd, self.svg];
-        files::commit_all(all.into_iter().flatten().collect())
+        for file in &mut self.plans {
+            file.write(plan_of(set).as_bytes())?;
+        }
+        let named = [self.images, self.memories, self.answers, self.vcd, self.svg];
+        let all = named.into_iter().flatten().chain(self.plans);
+        files::commit_all(all.collect())
     }
+}
+
+/// The plan of a set, a line for each device.
+fn plan_of(set: &Set) -> String {
+    let members = set.members().iter();
+    let members: Vec<_> = members.map(|one| (one.size(), one.select())).collect();
+    let words = files::plan_words(&members).into_iter();
+    words.map(|word| word + "\n").collect()
 }
 
 /// Plays a source to all who want to see it.

@@ -4,9 +4,10 @@
 use std::fmt;
 use std::path::Path;
 
+use fm3130::family::{Select, Size};
 use fm3130::IMAGE_BYTES;
 
-use super::read_at_most;
+use super::{exists, plan, read_at_most};
 use crate::chip::{Chip, Part};
 use crate::failure::{Failure, Outcome};
 
@@ -33,10 +34,13 @@ pub fn load_memory(path: &Path, part: Part) -> Outcome<Loaded> {
     load(path, length, &vec![0; length], part.wrong_memory())
 }
 
-/// The images or the memories of a set in a file, one after the other; or those of fresh devices if there is no such
-/// file.
-pub fn load_of_set(path: &Path, fresh: &[u8], devices: usize) -> Outcome<Loaded> {
-    let wanted = format!("a set of {devices} has {}", fresh.len());
+/// The images or the memories of a set in a file, one after the other, held to its plan; or those of fresh devices if
+/// there is no such file.
+pub fn load_of_set(path: &Path, fresh: &[u8], members: &[(Size, Select)]) -> Outcome<Loaded> {
+    if exists(path)? {
+        plan::must_hold(path, members)?;
+    }
+    let wanted = format!("a set of {} has {}", members.len(), fresh.len());
     load(path, fresh.len(), fresh, wanted)
 }
 
@@ -67,12 +71,6 @@ fn load(
         bytes,
         is_fresh: false,
     })
-}
-
-/// Whether there is such a file; not to know it is a failure, since a fresh part would hide it.
-fn exists(path: &Path) -> Outcome<bool> {
-    path.try_exists()
-        .map_err(|error| Failure::of_file(path, &error))
 }
 
 /// Says how long the file is and how long it should be.
