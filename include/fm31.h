@@ -263,7 +263,7 @@ uint64_t fm3164_step(uint8_t *image, uint64_t image_length, uint8_t *memory, uin
  *   6      start + length passes 8,192 or 16, the end of the chosen bytes; the sum is exact, it
  *          does not wrap
  *
- * Proved: ViewNumberSettled, crates/rig31/specs/View.antt. Allocates nothing, keeps nothing,
+ * Proved: ViewNumberSettled, crates/view/specs/View.antt. Allocates nothing, keeps nothing,
  * thread-safe on distinct buffers.
  */
 uint64_t fm3164_view_number(const uint8_t *image, uint64_t image_length, const uint8_t *memory,
@@ -318,7 +318,7 @@ uint64_t fm31256_step(uint8_t *image, uint64_t image_length, uint8_t *memory,
 
 /*
  * Whether a part can be viewed; see fm3164_view_number. Proved: ViewNumberSettled,
- * crates/rig31/specs/View.antt.
+ * crates/view/specs/View.antt.
  */
 uint64_t fm31256_view_number(const uint8_t *image, uint64_t image_length, const uint8_t *memory,
                              uint64_t memory_length, uint64_t selector, uint64_t start,

@@ -44,8 +44,8 @@ failed first. Those named `CRATE/must-fail/..` are tried by the gate each time, 
 `make all-edits`: an edit proves its whole crate anew, and all of them would take the gate past its hour (D105). `make edits`
 writes this page from what the prover said when it last tried each edit, and a test sees that every edit has its line.
 
-"What `f` ensures" is the contract of the function `f`; "law `F.l`" the law `l` in the crate's proofs/F.antt. "`a` is not `b`"
-are two terms that had to be one, shortened; one that only the prover can read is left out.
+What `f` ensures is the contract of the function `f`; law `F.l` is the law `l` in the file F of the crate's proofs. Where `a` is
+not `b`, these are two terms that had to be one, shortened; one that only the prover can read is left out.
 
 | edit | the rule that it breaks | what fails first | because |
 |---|---|---|---|

@@ -13,6 +13,7 @@
 //! * [`panel`]: what the proved program of the lamps is run on, and what it has to print.
 //! * [`almanac`]: what the proved calendar has to print.
 //! * [`edits`]: what the prover said of each edit that it must refuse.
+//! * [`prose`]: what people read in the files of the tree.
 
 pub mod almanac;
 pub mod archive;
@@ -23,5 +24,6 @@ pub mod image;
 pub mod lamps;
 pub mod lists;
 pub mod panel;
+pub mod prose;
 pub mod set;
 pub mod standin;

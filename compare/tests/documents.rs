@@ -1,16 +1,23 @@
 // SPDX-License-Identifier: Apache-2.0
-//! What the documents say of the crates is so.
+//! What the documents say is so.
 //!
-//! * Every name in docs/STATEMENTS.md and docs/AUDIT.md exists: definitions, functions, theorems, edits, families of
-//!   lists.
-//! * Its tables have every public function, as an entry or as another, and every `requires` of one.
+//! * Every file that a page or a comment names exists; and every definition, function, theorem, edit and family of lists that
+//!   a page names.
+//! * The tables of docs/STATEMENTS.md have every public function, as an entry or as another, and every `requires` of one.
 //! * docs/EDITS.md has every edit, with the rule that it breaks.
-//! * D35 and D43 of docs/DECISIONS.md name what exists, and every public enum.
+//! * D43 of docs/DECISIONS.md has every public enum.
 
 use compare::edits::{self, top};
+use compare::prose::{self, entries_of};
 use std::collections::BTreeSet;
 use std::fs;
 use std::path::{Path, PathBuf};
+
+/// The endings by which the name of a file is told from other words.
+const FILES: [&str; 7] = ["antt", "bus", "h", "md", "rs", "rt", "sh"];
+
+/// Files that are the C compiler's.
+const OF_C: [&str; 3] = ["stddef.h", "stdint.h", "stdio.h"];
 
 fn text_of(path: &Path) -> Option<String> {
     fs::read_to_string(path).ok()
@@ -38,104 +45,169 @@ fn has_function(text: &str, name: &str) -> bool {
         .any(|next| text.contains(&format!("fn {name}{next}")))
 }
 
-/// What is wrong with a name such as `wire/specs/Clock.kept`, or nothing.
-fn fault(name: &str) -> Option<String> {
+/// Whether the second program has a family of lists.
+fn is_family(family: &str) -> bool {
+    let families = text_of(&top().join("second/src/generate/mod.rs")).unwrap();
+    families.contains(&format!("| {family} |"))
+}
+
+fn is_edit(folder: PathBuf, label: &str) -> bool {
+    folder.join(format!("{label}.edit")).is_file()
+}
+
+/// Whether a crate has a place such as `bits` or `bits.pushed` in its code.
+fn is_code(source: &Path, place: &str) -> bool {
+    let (file, function) = place.split_once('.').unwrap_or((place, ""));
+    let text = text_of(&source.join(format!("{file}.rt")));
+    text.is_some_and(|text| function.is_empty() || has_function(&text, function))
+}
+
+/// Whether a folder of specs or proofs has a place such as `Clock` or `Clock.kept`.
+fn is_stated(folder: &Path, place: &str) -> bool {
+    let (file, definition) = place.split_once('.').unwrap_or((place, ""));
+    let text = text_of(&folder.join(format!("{file}.antt")));
+    text.is_some_and(|text| definition.is_empty() || defines(&text, definition))
+}
+
+/// Whether a path leads to a file or folder: from the top, from the crates, or from a folder around the file that names it.
+fn leads_somewhere(path: &str, named_in: &Path) -> bool {
+    let around = named_in.ancestors().skip(1).map(|it| top().join(it));
+    let from = around.chain([top().join("crates")]);
+    from.into_iter().any(|folder| folder.join(path).exists())
+}
+
+/// Whether a name is of no file of the tree: it stands for many, by a star, two points or a word in capitals; or it is made.
+fn is_passed_over(name: &str) -> bool {
+    let is_made = prose::NOT_OF_THE_TREE.contains(&name.split('/').next().unwrap());
+    let is_many = |part: &str| {
+        let is_capitals = part.chars().all(|letter| letter.is_ascii_uppercase());
+        part.contains('*') || part == ".." || is_capitals
+    };
+    is_made || OF_C.contains(&name) || name.split('/').any(is_many)
+}
+
+/// Whether there is what a name such as `wire/specs/Clock.kept` or `docs/IMAGE.md` says. A word whose first part is no
+/// folder of the tree is no name, and is let pass.
+fn is_there(name: &str, named_in: &Path) -> bool {
     let parts: Vec<&str> = name.split('/').collect();
     let crates = top().join("crates");
-    let missing = || Some(format!("{name} is not there"));
-    match parts[..] {
-        ["second", family] => {
-            let lists = text_of(&top().join("second/src/generate/mod.rs")).unwrap();
-            (!lists.contains(&format!("| {family} |"))).then(|| format!("{name} is no family"))
-        }
-        [owner, "must-fail", label] => {
-            let edit = crates
-                .join(owner)
-                .join("must-fail")
-                .join(format!("{label}.edit"));
-            if edit.is_file() {
-                None
-            } else {
-                missing()
+    leads_somewhere(name, named_in)
+        || match parts[..] {
+            ["second", family] => is_family(family),
+            ["edits", owner, label] => is_edit(top().join("edits").join(owner), label),
+            [owner, "must-fail", label] => is_edit(crates.join(owner).join("must-fail"), label),
+            [owner, "src", place] => is_code(&crates.join(owner).join("src"), place),
+            [owner, folder @ ("specs" | "proofs"), place] => {
+                is_stated(&crates.join(owner).join(folder), place)
             }
+            [first, ..] => !top().join(first).is_dir(),
+            [] => true,
         }
-        ["edits", owner, label] => {
-            let edit = top().join("edits").join(owner);
-            let is_there = edit.join(format!("{label}.edit")).is_file();
-            (!is_there).then(|| format!("{name} is not there"))
-        }
-        [owner, "src", place] => {
-            let (file, function) = place.split_once('.').unwrap_or((place, ""));
-            let text = text_of(&crates.join(owner).join("src").join(format!("{file}.rt")));
-            let found =
-                text.is_some_and(|text| function.is_empty() || has_function(&text, function));
-            if found {
-                None
-            } else {
-                missing()
-            }
-        }
-        [owner, folder @ ("specs" | "proofs"), place] => {
-            let (file, definition) = place.split_once('.')?;
-            let text = text_of(&crates.join(owner).join(folder).join(format!("{file}.antt")));
-            if text.is_some_and(|text| defines(&text, definition)) {
-                None
-            } else {
-                missing()
-            }
-        }
-        _ => None,
+}
+
+fn is_file_name(word: &str) -> bool {
+    FILES.contains(&prose::ending_of(Path::new(word)))
+}
+
+/// The words of a line that may be names, by a `/` in them or by their endings.
+fn names_in(line: &str) -> Vec<&str> {
+    let is_between = |letter: char| !(letter.is_alphanumeric() || "_-./*".contains(letter));
+    let may_be_name = |word: &&str| word.contains('/') || is_file_name(word);
+    line.split(is_between)
+        .map(|word| word.trim_end_matches(['.', '-', '/', '*']))
+        .filter(|word| !word.starts_with(['.', '/', '*']))
+        .filter(may_be_name)
+        .collect()
+}
+
+/// What is named in a file and is not there. A file may be named by the end of its path.
+fn faults_in(file: &Path, files: &[PathBuf]) -> Vec<String> {
+    let text = text_of(&top().join(file)).unwrap_or_default();
+    let is_known = |name: &str| match is_file_name(name) {
+        _ if is_passed_over(name) => true,
+        true => files.iter().any(|file| file.ends_with(name)),
+        false => is_there(name, file),
+    };
+    let mut faults = vec![];
+    for (number, line) in (1..).zip(prose::lines_of(file, &text)) {
+        let gone = names_in(&line).into_iter().filter(|name| !is_known(name));
+        let fault = |name| format!("{}:{number}: {name} is not there", file.display());
+        faults.extend(gone.map(fault));
+    }
+    faults
+}
+
+/// A name and the file that it is said to be in: `Proved: NAME, FILE`, or `NAME in FILE` with the name in code marks.
+fn placed<'a>(words: &[&'a str]) -> Option<(&'a str, &'a str)> {
+    let [first, second, file] = *words else {
+        return None;
+    };
+    let name = match second {
+        "in" => first.strip_prefix('`')?.strip_suffix('`')?,
+        _ if first.ends_with(':') => second.strip_suffix(',')?,
+        _ => return None,
+    };
+    Some((name, file.trim_matches(['`', '.', ',', ';', ':', ')'])))
+}
+
+/// Whether a file of the crates has a name in it.
+fn has_name(file: &str, name: &str) -> bool {
+    let text = text_of(&top().join(file)).unwrap_or_default();
+    match prose::ending_of(Path::new(file)) {
+        _ if !file.starts_with("crates/") => true,
+        "antt" => defines(&text, name),
+        "rt" => has_function(&text, name),
+        _ => true,
     }
 }
 
-/// What a text has between backticks.
-fn spans_of(text: &str) -> impl Iterator<Item = &str> {
-    text.split('`').skip(1).step_by(2)
+/// All files but the notes of the landings, which name what there was on their day.
+fn read_files() -> Vec<PathBuf> {
+    let files = prose::files_of(&top());
+    let is_read = |file: &PathBuf| !file.ends_with("LANDINGS.md");
+    files.into_iter().filter(is_read).collect()
 }
 
-/// Holds every name in a text, which has more than `few` of them, to the files.
-fn hold_names(text: &str, few: usize) {
-    let names: Vec<&str> = spans_of(text).filter(|span| span.contains('/')).collect();
-    assert!(names.len() > few, "{} names are few", names.len());
-    let faults: Vec<String> = names.iter().filter_map(|name| fault(name)).collect();
+#[test]
+fn everything_that_is_named_exists() {
+    let files = prose::files_of(&top());
+    let read = read_files();
+    let faults: Vec<String> = read
+        .iter()
+        .flat_map(|file| faults_in(file, &files))
+        .collect();
     assert!(faults.is_empty(), "{}", faults.join("\n"));
 }
 
-/// Holds every name in a page of docs/.
-fn hold(page: &str, few: usize) {
-    hold_names(&text_of(&top().join("docs").join(page)).unwrap(), few);
-}
-
 #[test]
-fn every_name_in_the_statements_exists() {
-    hold("STATEMENTS.md", 200);
+fn what_is_said_to_be_in_a_file_is_there() {
+    let mut faults = vec![];
+    for file in read_files() {
+        let text = text_of(&top().join(&file)).unwrap_or_default();
+        for paragraph in prose::paragraphs(&file, &text) {
+            let words: Vec<&str> = paragraph.text.split_whitespace().collect();
+            let placed = words.windows(3).filter_map(placed);
+            let gone = placed.filter(|(name, file)| !has_name(file, name));
+            let fault = |(name, file)| format!("{}: {name} is not in {file}", paragraph.place);
+            faults.extend(gone.map(fault));
+        }
+    }
+    assert!(faults.is_empty(), "{}", faults.join("\n"));
 }
 
-#[test]
-fn every_name_in_the_auditors_page_exists() {
-    hold("AUDIT.md", 15);
-}
-
-/// Where the forms of 01 stand and which enums are answers: D35 and D43 of docs/DECISIONS.md.
-fn forms() -> String {
+/// Which enums are answers: D43 of docs/DECISIONS.md, up to the next part.
+fn answers() -> String {
     let text = text_of(&top().join("docs/DECISIONS.md")).unwrap();
-    let from = text
-        .find("\n## D35. ")
-        .expect("docs/DECISIONS.md has no D35");
-    let part = &text[from + 1..];
+    let (_, part) = text
+        .split_once("\n### D43. ")
+        .expect("docs/DECISIONS.md has no D43");
     part[..part.find("\n## ").unwrap_or(part.len())].to_string()
 }
 
 #[test]
-fn every_name_in_the_forms_exists() {
-    hold_names(&forms(), 50);
-}
-
-#[test]
 fn every_enum_is_said_to_be_an_answer_or_none() {
-    let forms = forms();
-    let (_, answers) = forms.split_once("### D43. ").unwrap();
-    let named: BTreeSet<&str> = spans_of(answers).collect();
+    let answers = answers();
+    let named: BTreeSet<&str> = answers.split('`').skip(1).step_by(2).collect();
     let mut enums = 0;
     for owner in entries_of(&top().join("crates")) {
         for file in entries_of(&owner.join("src")) {
@@ -161,23 +233,32 @@ fn every_enum_is_said_to_be_an_answer_or_none() {
 fn a_name_that_is_gone_is_noticed() {
     for name in [
         "wire/specs/Clock.kep",
+        "wire/specs/Clok",
         "wire/src/bits.pus",
         "wire/must-fail/none",
         "edits/wire/none",
         "second/none",
         "lists/proofs/Runs.none",
+        "docs/NONE.md",
+        "crates/wire/specs/Clok.antt",
     ] {
-        assert!(fault(name).is_some(), "{name}");
+        assert!(!is_there(name, Path::new("README.md")), "{name}");
     }
 }
 
-/// The files and folders in a folder, in the order of their names.
-fn entries_of(folder: &Path) -> Vec<PathBuf> {
-    let mut paths: Vec<PathBuf> = fs::read_dir(folder)
-        .map(|entries| entries.map(|entry| entry.unwrap().path()).collect())
-        .unwrap_or_default();
-    paths.sort();
-    paths
+#[test]
+fn names_are_told_from_other_words() {
+    let line = "See `wire/specs/Clock.kept`, docs/IMAGE.md and [the guide](GUIDE.md); read/write in main.rs.";
+    let names = names_in(line);
+    let told = [
+        "wire/specs/Clock.kept",
+        "docs/IMAGE.md",
+        "GUIDE.md",
+        "read/write",
+        "main.rs",
+    ];
+    assert_eq!(names, told);
+    assert!(is_there("read/write", Path::new("README.md")));
 }
 
 fn stem_of(path: &Path) -> &str {

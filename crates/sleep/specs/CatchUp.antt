@@ -48,7 +48,7 @@ alarmAt i =
       month = getD i 13 0;
     }
 
--- Auxiliary: what `companion/specs/Control.followed` says of 02h to 08h, on an image.
+-- Auxiliary: what `registers/specs/Control.followed` says of 02h to 08h, on an image.
 abbrev pub followedOn : ℕ → Calendar → List ℕ → List ℕ
 followedOn control core i = cond (has control W || has control R) i (sets i 2 (calendarBytes core))
 
