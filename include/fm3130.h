@@ -354,10 +354,11 @@ uint64_t fm3130_line(const uint8_t *image, uint64_t image_length, const uint8_t 
                      uint64_t memory_length);
 
 /*
- * Catches up after sleep: many ticks in one call, in about a microsecond. The image is left exactly
- * as fm3130_run leaves it on a list of so many events FM3130_TICK: registers, calendar, AF and CF,
- * whatever the alarm, with an invalid calendar, a halted oscillator or no supply too. The memory is
- * not needed: a tick does not touch it. A host that slept longer calls more than once.
+ * Catches up after sleep: many ticks in one call, which takes 20 to 32 ns for a leap year of them
+ * (docs/SPEED.md). The image is left exactly as fm3130_run leaves it on a list of so many events
+ * FM3130_TICK: registers, calendar, AF and CF, whatever the alarm, with an invalid calendar, a
+ * halted oscillator or no supply too. The memory is not needed: a tick does not touch it. A host
+ * that slept longer calls more than once.
  *
  *   image    image_length bytes, must be 64 and an image as fm3130_run takes it; read and written
  *   ticks    how many seconds passed; 0 changes nothing

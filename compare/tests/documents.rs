@@ -376,3 +376,27 @@ fn every_edit_is_listed_with_its_rule() {
     assert!(there.len() > 70, "{} edits are few", there.len());
     assert_eq!(listed, there, "`rt must-fail`, then `make edits`");
 }
+
+/// The least and the greatest time of a call in docs/SPEED.md's table of catching up, in nanoseconds.
+fn times_of_catching_up() -> (u64, u64) {
+    let page = text_of(&top().join("docs/SPEED.md")).unwrap();
+    let (_, table) = page.split_once("| alarm | proved, ns a call |").unwrap();
+    let rows = table.split("\n\n").next().unwrap().lines().skip(2);
+    let times = rows.map(|row| row.split('|').nth(2).unwrap().trim().parse().unwrap());
+    let times: BTreeSet<u64> = times.collect();
+    (*times.first().unwrap(), *times.last().unwrap())
+}
+
+#[test]
+fn the_time_of_catching_up_is_that_of_the_table() {
+    let (least, most) = times_of_catching_up();
+    let told = format!("{least} to {most} ns");
+    for file in [
+        "include/fm3130.h",
+        "docs/GUIDE.md",
+        "rust/fm3130/src/device.rs",
+    ] {
+        let text = text_of(&top().join(file)).unwrap();
+        assert!(text.contains(&told), "{file} does not say {told}");
+    }
+}

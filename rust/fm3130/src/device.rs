@@ -207,7 +207,8 @@ impl Device {
     }
 
     /// Catches up after sleep: does many ticks in one call, as [`Device::run`] does a list of them,
-    /// but without the answers and in about a microsecond. 0 ticks change nothing.
+    /// but without the answers: 20 to 32 ns for a leap year of them (docs/SPEED.md). 0 ticks change
+    /// nothing.
     ///
     /// # Errors
     ///
