@@ -177,11 +177,11 @@ fn is_faulty(
 fn holds_a_good_part(section: &Section, decode_image: &impl Fn(&[u8]) -> Option<State>) -> bool {
     let body = section.body;
     match section.kind {
-        // "2: image is not 64 bytes, or no well-formed state writes it"
+        // 2: "image is not 64 bytes, or no well-formed state writes it"
         KIND_IMAGE => body.len() == IMAGE_BYTES && decode_image(body).is_some(),
-        // "1: memory is not 8,192 bytes"
+        // 1: "memory is not 8,192 bytes"
         KIND_MEMORY => body.len() == MEMORY_BYTES,
-        // "3: some event byte is above 7"
+        // 3: "some event byte is above 7"
         KIND_EVENTS => body.iter().all(|event| *event <= POWER_RETURNED),
         KIND_ANSWERS => true,
         _ => false,

@@ -3,7 +3,7 @@
 //! that of the one after it, told before they come, so that a controller that
 //! plays the part can drive its pin in time.
 //!
-//! It is asked by trying the Clocks: "bit 0 of the answer to event 3, and so on".
+//! It is asked by trying the Clocks: bit 0 of the answer to event 3, and so on.
 
 use crate::device::{Device, CLOCK_HIGH, CLOCK_LOW};
 use crate::host::line_is_high;
@@ -14,15 +14,15 @@ use crate::MEMORY_BYTES;
 /// Whether the device itself pulls a line low.
 #[derive(Clone, Copy, Debug, PartialEq, Eq)]
 pub struct NextLine {
-    /// "whether the device pulls the line of the next Clock low"
+    /// Whether the device pulls the line of the next Clock low.
     pub next: bool,
-    /// "whether it would pull the one after it, if that next Clock is low"
+    /// Whether it would pull the one after it, if that next Clock is low.
     pub after_low: bool,
-    /// "... and if it is high"
+    /// And if it is high.
     pub after_high: bool,
 }
 
-/// Read-only, "refused by 1 and 2 as the others". `image` is the state that an
+/// Read-only, refused by 1 and 2 as the others. `image` is the state that an
 /// image holds, or none if no well-formed state writes it.
 pub fn next_line(image: Option<State>, memory: &[u8]) -> Result<NextLine, u8> {
     if memory.len() != MEMORY_BYTES {

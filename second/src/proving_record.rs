@@ -30,7 +30,7 @@ pub fn lamp_at(source: LogicalDevice, memory_address: u16) -> Option<usize> {
     (lamp < LAMPS).then_some(lamp)
 }
 
-/// Clocks are of a byte only "while a transfer is on", and that is never without
+/// Clocks are of a byte only while a transfer is on, and that is never without
 /// main power.
 pub fn transfer_is_on(state: &State) -> bool {
     state.power == Power::On && state.transfer.phase != Phase::BetweenTransfers

@@ -1,25 +1,25 @@
 // SPDX-License-Identifier: Apache-2.0
 //! The numbers of refusals, as 01's table and the requests of 02 give them.
 
-/// "1: memory is not 8,192 bytes"; 02, number 5: "the wrong length for the chosen
+/// 1: "memory is not 8,192 bytes"; 02, number 5: "the wrong length for the chosen
 /// size".
 pub const WRONG_MEMORY: u8 = 1;
 
-/// "2: image is not 64 bytes, or no well-formed state writes it ...; for a state
+/// 2: "image is not 64 bytes, or no well-formed state writes it ...; for a state
 /// by value, outside the limits below".
 pub const WRONG_STATE: u8 = 2;
 
-/// "3: some event byte is above 7"; 02, number 5: "number 3 starts at 10 for this
+/// 3: "some event byte is above 7"; 02, number 5: "number 3 starts at 10 for this
 /// part".
 pub const UNKNOWN_EVENT: u8 = 3;
 
-/// "4: answers shorter than events".
+/// 4: "answers shorter than events".
 pub const ANSWERS_TOO_SHORT: u8 = 4;
 
-/// "5: viewer: selector neither 0 (memory) nor 1 (registers)".
+/// 5: "viewer: selector neither 0 (memory) nor 1 (registers)".
 pub const UNKNOWN_SELECTOR: u8 = 5;
 
-/// "6: viewer: start + length (exact sum) passes the end of the chosen bytes".
+/// 6: "viewer: start + length (exact sum) passes the end of the chosen bytes".
 pub const PAST_THE_END: u8 = 6;
 
 /// 02, number 8: "refused with a new number 7", when the other master holds the

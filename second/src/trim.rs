@@ -1,6 +1,6 @@
 // SPDX-License-Identifier: Apache-2.0
 //! Trim settings of the other maker's clock (02, number 9; document 002, "Clock
-//! calibration").
+//! Calibration").
 
 /// "a signed error from -20,000 to 20,000": the cycles counted over a 64-minute
 /// cycle, minus 125,829,120.

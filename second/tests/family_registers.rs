@@ -318,7 +318,7 @@ fn a_write_with_rc_0_ends_the_frozen_reads() {
     assert_eq!(read(&mut device, 0x0D), 1);
 }
 
-/// "a write with bit 3 = 1 takes a new snapshot", RC being 1 already.
+/// A write with bit 3 = 1 takes a new snapshot, RC being 1 already.
 #[test]
 fn rc_written_again_takes_a_new_snapshot() {
     let mut device = Device::fresh(Size::Kilobits64);
@@ -330,7 +330,7 @@ fn rc_written_again_takes_a_new_snapshot() {
     }
 }
 
-/// "A write to a counter byte while RC is 1 goes to the counter."
+/// A write to a counter byte while RC is 1 goes to the counter.
 #[test]
 fn a_write_while_frozen_goes_to_the_counter() {
     let mut device = Device::fresh(Size::Kilobits64);

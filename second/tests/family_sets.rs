@@ -304,7 +304,7 @@ fn others_are_left_as_they_were() {
             let is_named = device.selects == selects;
             assert_eq!(device == old, !is_named);
             if is_named {
-                // "the line it sees is that device's"
+                // the line it sees is that device's
                 assert_eq!(old.clone().run(&events), answers);
             }
         }

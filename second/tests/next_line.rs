@@ -211,7 +211,7 @@ fn a_clock_before_a_start_or_a_stop_is_harmless() {
     }
 }
 
-/// "refused by 1 and 2 as the others"
+/// Refused by 1 and 2 as the others.
 #[test]
 fn refusals() {
     let mut memory = vec![0; 8192];

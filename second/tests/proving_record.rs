@@ -369,7 +369,7 @@ fn a_start_or_stop_inside_a_byte() {
     }
 }
 
-/// "A hang between bytes that a Start frees is no failure": the lamps stay until
+/// A hang between bytes that a Start frees is no failure: the lamps stay until
 /// the third tick.
 #[test]
 fn a_hang_between_bytes_is_no_failure() {

@@ -25,7 +25,7 @@ fn the_two_errors_of_the_request() {
     }
 }
 
-/// 002: "a +20 ppm oscillator frequency error, requiring a -10"; 20 ppm of
+/// 002: "a +20 ppm oscillator frequency error" asks for -10; 20 ppm of
 /// 125,829,120 cycles are about 2,517.
 #[test]
 fn the_example_of_document_002() {

@@ -74,8 +74,8 @@ isAccepted kind body =
     (cond (eqb kind memoryKind) (eqb (length body) memorySize)
     (cond (eqb kind eventsKind) (allKnown body) true))
 
--- An entry by itself: not "of unknown kind", not "running past the end", not "overlapping the table", and not "holding
--- a part that 01 refuses".
+-- An entry by itself: not "of unknown .. kind", not "running past the end", not "overlapping the table", and not
+-- "holding a part that 01 refuses".
 unfoldable pub standsIn : List ℕ → Entry → Bool
 standsIn f e =
     leb imageKind (e .kind) && leb (e .kind) answersKind && leb (e .from + e .size) (length f)

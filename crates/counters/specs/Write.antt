@@ -27,7 +27,7 @@ flagsAfter old b =
 abbrev pub watchdogAfter : ℕ → ℕ
 watchdogAfter b = b / 128 * 128 + b % 32
 
--- 003: "SNL cannot be cleared once set to 1"; the other bits of 0Bh are "read/write" (its places by 003: D134).
+-- 003: "the SNL bit cannot be cleared"; the other bits of 0Bh are "read/write" (its places by 003: D134).
 abbrev pub controlAfter : ℕ → ℕ → ℕ
 controlAfter old b = only (has old SNL || has b SNL) SNL + b % 32
 

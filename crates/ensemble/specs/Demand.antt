@@ -6,7 +6,7 @@
 --   bench                       the set as devices on a wire (`wired`)
 --   wordByte, wordBytes         a merged list as event bytes of the set
 --   ownByteOf, ownBytes         a device's list as its own event bytes
---   WritesSteadyIn              "protection bits unchanged by writes"
+--   WritesSteadyIn              writes leave the protection bits unchanged
 --   Demanded, DemandThree
 -- Assumes nothing.
 use Prim.Native.Nat.{ℕ, _+_, _*_}
@@ -57,7 +57,7 @@ hearAt v second-passed = this Second
 hearAt v (edge-one w) = onlyIf (samePlace w v) Cnt1
 hearAt v (edge-two w) = onlyIf (samePlace w v) Cnt2
 
--- "Event bytes 8 and 9 for the first, 10 and 11 for the second, and so on."
+-- Event bytes 8 and 9 are edges of the first device, 10 and 11 of the second, and so on (docs/AMENDMENTS.md).
 abbrev pub tockByte : Tock → ℕ
 tockByte second-passed = 4
 tockByte (edge-one v) = 8 + 2 * numberOf v

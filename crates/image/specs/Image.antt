@@ -22,7 +22,7 @@ use Rattle.image.specs.declared.Decoded.the-variants.{Good, Bad}
 abbrev pub imageSize : ℕ
 imageSize = 64
 
--- Bytes 61 to 63: the mark "3130", and the layout's number. A buffer of zeros is no image.
+-- Bytes 61 to 63: the mark `3130`, and the layout's number. A buffer of zeros is no image.
 abbrev pub mark : List ℕ
 mark = 0x31 ∷ 0x30 ∷ 0x01 ∷ []
 

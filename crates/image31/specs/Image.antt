@@ -23,7 +23,7 @@ use Rattle.image31.specs.declared.Decoded.the-variants.{Good, Bad}
 abbrev pub imageSize : ℕ
 imageSize = 64
 
--- Bytes 61 to 63: the mark "31CC", and the layout's number. A buffer of zeros is no image, nor is one of an FM3130.
+-- Bytes 61 to 63: the mark `31CC`, and the layout's number. A buffer of zeros is no image, nor is one of an FM3130.
 abbrev pub mark : List ℕ
 mark = 0x31 ∷ 0xCC ∷ 0x01 ∷ []
 

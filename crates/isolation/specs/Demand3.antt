@@ -62,7 +62,7 @@ linesOf ns = map (λ n. n % 2) ns
 abbrev pub protection : Held → ℕ
 protection h = guardOf (h .state .companion)
 
--- "Protection bits unchanged by writes": no data byte that the list writes changes them.
+-- Protection bits unchanged by writes (demand 3): no data byte that the list writes changes them.
 abbrev pub WritesSteadyIn : Held → List (BusEvent fm3130) → Type 0
 WritesSteadyIn h [] = Unit {0}
 WritesSteadyIn h (e ∷ es) =

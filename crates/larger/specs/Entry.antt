@@ -29,8 +29,8 @@ abbrev pub upToNinth : List ℕ → List ℕ → Bool → List ℕ
 upToNinth before byte d = before ++ (byte ++ (clockEvent d ∷ []))
 
 module _ (size : ℕ) where
-  -- "An acknowledged memory byte is stored at its address." The image before the byte holds a state in which a data
-  -- byte of a memory write begins; with the master's line high at the ninth clock, bit 0 of the answer to it is 0.
+  -- Demand 2: an acknowledged memory byte is stored at its address. The image before the byte holds a state in which a
+  -- data byte of a memory write begins; with the master's line high at the ninth clock, bit 0 of the answer to it is 0.
   abbrev pub CallStores : Type 0
   CallStores =
       (i m before byte a : List ℕ) (w : ℕ) (d : Bool) (s : State)
@@ -40,7 +40,8 @@ module _ (size : ℕ) where
       → StoredAt (outcomeOf size i m before a .memory) (s .bus .address) w
       (outcomeOf size i m (upToNinth before byte d) a .memory)
 
-  -- "A protected address is never changed": one that is protected before each event of the list has what it had.
+  -- Demand 2: a protected address is never changed. One that is protected before each event of the list has what
+  -- it had.
   abbrev pub CallKeeps : Type 0
   CallKeeps =
       (i m es b : List ℕ) (a : ℕ) (s : State) → outcomeOf size i m es b .number ≡ accepted → decodeOf size lone i ≡ Good

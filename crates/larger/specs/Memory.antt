@@ -24,8 +24,8 @@ use Rattle.parts.specs.Events.{clockEvent}
 use Rattle.parts.specs.Stored.{Byte, AtData, StoredAt}
 
 module _ (size : ℕ) where
-  -- "An acknowledged memory byte is stored at its address": where a data byte of a memory write begins, its eight
-  -- clocks come, with ticks and edges among them, and the device itself pulls the ninth clock's line low.
+  -- Demand 2: an acknowledged memory byte is stored at its address. Where a data byte of a memory write begins, its
+  -- eight clocks come, with ticks and edges among them, and the device itself pulls the ninth clock's line low.
   abbrev pub AcknowledgedStored : Type 0
   AcknowledgedStored =
       (s : State) (m before byte : List ℕ) (w : ℕ) (d : Bool) → wellFormed size lone s ≡ true → length m ≡ size
@@ -44,7 +44,7 @@ module _ (size : ℕ) where
   BeforeEach X s m es =
       (done rest : List ℕ) (e : ℕ) → es ≡ done ++ (e ∷ rest) → X (runOf size lone s m done .state) e
 
-  -- "A protected address is never changed."
+  -- Demand 2: a protected address is never changed.
   abbrev pub ProtectedKept : Type 0
   ProtectedKept =
       (s : State) (m es : List ℕ) (a : ℕ) → BeforeEach (λ t e. Protected t a ≡ true) s m es

@@ -1,6 +1,6 @@
 -- SPDX-License-Identifier: Apache-2.0
--- The line of the next Clock, and of the one after it (01, Event bytes: "Bit 0 is the line, read at this moment. For a
--- Clock, low if the master or the device pulls it low"). All by the machine's own answers: the device pulls a Clock's line
+-- The line of the next Clock, and of the one after it (01, Event bytes: "Bit 0 is the line: for a Clock,
+-- low if the master or the device pulls it low"). All by the machine's own answers: the device pulls a Clock's line
 -- exactly if the answer to event 3, the Clock at which the master does not pull it, has bit 0 clear.
 --   pulls, pullsOf                  whether the device pulls the next Clock's line; and the one after it
 --   toldBy, lineOf                  the same as one number, refusals too

@@ -26,7 +26,7 @@ use Rattle.eight.specs.Lit.{lampAddress, isLit}
 use Rattle.lamps.specs.Statement.{logged}
 use Rattle.eight.specs.declared.Mark.the-variants.{Gave}
 
--- "3 Clock with the master's data line high."
+-- "2 Clock with the master's data line low; 3 Clock with it high": the second.
 abbrev pub isHighClock : Happening → Bool
 isHighClock (onWire start) = false
 isHighClock (onWire stop) = false

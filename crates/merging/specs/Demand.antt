@@ -56,7 +56,7 @@ module _ (P : Parts) where
   abbrev pub Merge : List (BusEvent P) → List (BusEvent P) → List (PartyEvent P) → Type 0
   Merge xs ys l = MergeFrom between between xs ys l
 
-  -- "Protection bits unchanged by writes": no data byte that the second list writes changes them.
+  -- Protection bits unchanged by writes (demand 3): no data byte that the second list writes changes them.
   abbrev pub WritesSteady : State P → List (BusEvent P) → Type 0
   WritesSteady s [] = Unit {0}
   WritesSteady s (e ∷ es) =

@@ -33,7 +33,7 @@ module _ (size select : ℕ) (D : Desks) where
   abbrev pub bytesOf : List (BusEvent (partOf size select D)) → List ℕ
   bytesOf es = map byteOf es
 
-  -- "Protection bits unchanged by writes": no data byte that the list writes changes them.
+  -- Protection bits unchanged by writes (demand 3): no data byte that the list writes changes them.
   abbrev pub WritesSteadyIn : Held size select D → List (BusEvent (partOf size select D)) → Type 0
   WritesSteadyIn h [] = Unit {0}
   WritesSteadyIn h (e ∷ es) =

@@ -1,6 +1,6 @@
 -- SPDX-License-Identifier: Apache-2.0
--- What changes the memory of a part, over any size, select and companion (demand 2: "a protected address is never
--- changed").
+-- What changes the memory of a part, over any size, select and companion (demand 2: a protected address is never
+-- changed).
 --   Protected                              the address is protected
 --   Change                                 the two ways an event leaves the memory
 --   OnlyEighthClocks, ProtectedUnchanged   of one event
@@ -37,7 +37,7 @@ module _ (size select : ℕ) (D : Desks) where
   abbrev pub OnlyEighthClocks : Type 0
   OnlyEighthClocks = (h : Held size select D) (e : ℕ) → Change h (happening e) (event size select D h e .memory)
 
-  -- "A protected address is never changed."
+  -- Demand 2: a protected address is never changed. Here by one event.
   abbrev pub ProtectedUnchanged : Type 0
   ProtectedUnchanged =
       (h : Held size select D) (e a : ℕ) → Protected h a ≡ true → getD (event size select D h e .memory) a 0 ≡ getD

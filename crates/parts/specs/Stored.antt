@@ -51,7 +51,7 @@ module _ (size select : ℕ) (D : Desks) where
   abbrev pub Pulls : Held size select D → Type 0
   Pulls h = event size select D h 3 .line ≡ false
 
-  -- Demand 2: "an acknowledged memory byte is stored at its address". From whatever the part holds, whatever the events
+  -- Demand 2: an acknowledged memory byte is stored at its address. From whatever the part holds, whatever the events
   -- before: where a data byte of a memory write begins at an address inside the memory, its eight clocks come, and the
   -- device itself pulls the ninth clock's line low, the memory then is as it was but for that byte at the address.
   abbrev pub AcknowledgedStored : Type 0

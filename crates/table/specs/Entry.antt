@@ -25,9 +25,9 @@ use Rattle.table.specs.Table.{lastLine}
 abbrev pub upToNinth : List ℕ → List ℕ → Bool → List ℕ
 upToNinth before byte d = before ++ (byte ++ (clockEvent d ∷ []))
 
--- "An acknowledged memory byte is stored at its address." The image before the byte holds a state in which a data byte
--- of a memory write begins. "Acknowledged means that the device itself pulls the ninth clock's line low, whatever the
--- master does there": with the master's line high there, bit 0 of the last answer is 0.
+-- Demand 2: an acknowledged memory byte is stored at its address. The image before the byte holds a state in which a
+-- data byte of a memory write begins. "Acknowledged means that the device itself pulls the ninth clock's line low,
+-- whatever the master does there": with the master's line high there, bit 0 of the last answer is 0.
 abbrev pub CallsStore : Type 0
 CallsStore =
     (i m before byte : List ℕ) (w : ℕ) (d : Bool) (s : State) (begun high whole : Left)
@@ -45,7 +45,7 @@ CallStores =
     → lastLine (leftOf (outcomeOf i m (upToNinth before byte true) a) .answers) ≡ 0
     → StoredAt (outcomeOf i m before a .memory) (s .address) w (outcomeOf i m (upToNinth before byte d) a .memory)
 
--- "A protected address is never changed": one that is protected before each event of the list has what it had.
+-- Demand 2: a protected address is never changed. One that is protected before each event of the list has what it had.
 abbrev pub CallsKeep : Type 0
 CallsKeep =
     (i m es : List ℕ) (a : ℕ) (s : State) (l : Left) → decodeOf i ≡ Good s

@@ -1,5 +1,5 @@
 -- SPDX-License-Identifier: Apache-2.0
--- What changes the memory (demand 2: "a protected address is never changed"; 01, Transfers).
+-- What changes the memory (demand 2: a protected address is never changed; 01, Transfers).
 --   Change                the two ways an event leaves the memory
 --   OnlyEighthClocks, ProtectedUnchanged   the statements
 -- Assumes nothing.
@@ -34,7 +34,7 @@ pub data Change (s : State) (m : List ℕ) (x : Happening) (m′ : List ℕ) : T
 abbrev pub OnlyEighthClocks : Type 0
 OnlyEighthClocks = (s : State) (m : List ℕ) (e : ℕ) → Change s m (happening e) (eventOf s m e .memory)
 
--- "A protected address is never changed."
+-- Demand 2: a protected address is never changed. Here by one event.
 abbrev pub ProtectedUnchanged : Type 0
 ProtectedUnchanged =
     (s : State) (m : List ℕ) (e a : ℕ) → Protected s a ≡ true → getD (eventOf s m e .memory) a 0 ≡ getD m a 0

@@ -60,7 +60,7 @@ pub record StoredAt (m : List ℕ) (a w : ℕ) (m′ : List ℕ) : Type 0 where
   pub whole : m′ ≡ set m a w
   pub byte : getD m′ a 0 ≡ w
 
--- Demand 2: "an acknowledged memory byte is stored at its address". Whatever the state, the memory and the events before:
+-- Demand 2: an acknowledged memory byte is stored at its address. Whatever the state, the memory and the events before:
 -- where a data byte of a memory write begins, its eight clocks come, and the device itself pulls the ninth clock's line low,
 -- the memory then is as it was but for that byte at the address.
 abbrev pub AcknowledgedStored : Type 0

@@ -1,5 +1,5 @@
 -- SPDX-License-Identifier: Apache-2.0
--- A protected address over a whole list of events (demand 2: "a protected address is never changed").
+-- A protected address over a whole list of events (demand 2: a protected address is never changed).
 --   BeforeEach          something holds of the state before each event of a list
 --   ProtectedKept       an address that is protected before each event of a list has after it what it had
 --   Protecting          the events that can change the protection
@@ -24,7 +24,7 @@ use Rattle.table.specs.Protected.{Protected}
 abbrev pub BeforeEach : (State → ℕ → Type 0) → State → List ℕ → List ℕ → Type 0
 BeforeEach X s m es = (done rest : List ℕ) (e : ℕ) → es ≡ done ++ (e ∷ rest) → X (after s m done) e
 
--- "A protected address is never changed."
+-- Demand 2: a protected address is never changed.
 abbrev pub ProtectedKept : Type 0
 ProtectedKept =
     (s : State) (m es : List ℕ) (a : ℕ) → BeforeEach (λ t e. Protected t a ≡ true) s m es

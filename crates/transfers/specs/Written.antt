@@ -1,6 +1,6 @@
 -- SPDX-License-Identifier: Apache-2.0
--- A written memory byte in the words of the wire (demand 2: "an acknowledged memory byte is stored at its address"): Start,
--- A0h, two address bytes, a data byte.
+-- A written memory byte in the words of the wire (demand 2: an acknowledged memory byte is stored at its address):
+-- Start, A0h, two address bytes, a data byte.
 --   writeEvents, addressOf   the events, and the address that they name
 --   Written                  what they leave
 --   WrittenOnTheWire         the statement

@@ -67,7 +67,7 @@ fn print_device(device: &Device) {
     println!("memory sum    {:016X}h", memory_checksum(&device.memory));
 }
 
-/// The 64-bit "FNV-1a" sum of all memory bytes in order.
+/// The 64-bit FNV-1a sum of all memory bytes in order.
 fn memory_checksum(memory: &[u8]) -> u64 {
     let mut sum: u64 = 0xCBF2_9CE4_8422_2325;
     for byte in memory {

@@ -38,7 +38,7 @@ pub const ONLY_CLEARED: u8 = 0xE0;
 pub const POWER_ON_RESET: u8 = 0x40;
 /// LB of 09h.
 pub const LOW_BATTERY: u8 = 0x20;
-/// SNL of 0Bh: "SNL cannot be cleared once set to 1."
+/// SNL of 0Bh: "the SNL bit cannot be cleared."
 pub const SERIAL_LOCK: u8 = 0x80;
 /// WP1 of 0Bh.
 pub const PROTECT_HIGH: u8 = 0x10;

@@ -1,7 +1,7 @@
 // SPDX-License-Identifier: Apache-2.0
 //! A small source of pseudo random numbers with an explicit seed.
 
-/// The well known "split mix" generator with 64 bits of state.
+/// The well known split mix generator with 64 bits of state.
 #[derive(Clone, Debug)]
 pub struct RandomSource {
     state: u64,
