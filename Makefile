@@ -43,8 +43,8 @@ pkg_config = sed -e 's|@INCLUDE@|$(1)|' -e 's|@LIB@|$(2)|' -e 's|@VERSION@|$(VER
 # How long `make fuzz` runs each of its targets.
 SECONDS := 200
 
-.PHONY: help test tests check demo lib archives install host ctest second compare edits all-edits web web-test controller \
-	bench counts fuzz fmt fmt-check setup clean
+.PHONY: help test tests check demo lib archives install host ctest second compare quotations edits all-edits web web-test \
+	controller bench counts fuzz fmt fmt-check setup clean
 
 help: ## list these targets
 	@awk -F':.*## ' '/^[a-z-]+:.*## / { printf "make %-10s %s\n", $$1, $$2 }' Makefile
@@ -120,6 +120,9 @@ second: ## the tests of the second program, which is written apart from the crat
 
 compare: lib ## the proved program and the second program, side by side
 	@$(CARGO_TEST) --package compare
+
+quotations: lib ## compare/quotations.sums: every quotation is looked up in the papers, which are in ../shared
+	@cargo run --offline --release --quiet --package compare --bin write_quotations
 
 edits: lib ## docs/EDITS.md, from what the prover last said of each edit (rt must-fail, rt ci, make all-edits)
 	@cargo run --offline --release --quiet --package compare --bin write_edits

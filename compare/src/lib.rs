@@ -14,6 +14,7 @@
 //! * [`almanac`]: what the proved calendar has to print.
 //! * [`edits`]: what the prover said of each edit that it must refuse.
 //! * [`prose`]: what people read in the files of the tree.
+//! * [`quotations`]: quotations, and the papers whose words they are.
 
 pub mod almanac;
 pub mod archive;
@@ -25,5 +26,6 @@ pub mod lamps;
 pub mod lists;
 pub mod panel;
 pub mod prose;
+pub mod quotations;
 pub mod set;
 pub mod standin;

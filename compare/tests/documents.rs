@@ -6,9 +6,11 @@
 //! * The tables of docs/STATEMENTS.md have every public function, as an entry or as another, and every `requires` of one.
 //! * docs/EDITS.md has every edit, with the rule that it breaks.
 //! * D43 of docs/DECISIONS.md has every public enum.
+//! * What stands between quotation marks is in the papers (D219).
 
 use compare::edits::{self, top};
-use compare::prose::{self, entries_of};
+use compare::prose::{self, entries_of, Paragraph};
+use compare::quotations::{self, Papers};
 use std::collections::BTreeSet;
 use std::fs;
 use std::path::{Path, PathBuf};
@@ -399,4 +401,87 @@ fn the_time_of_catching_up_is_that_of_the_table() {
         let text = text_of(&top().join(file)).unwrap();
         assert!(text.contains(&told), "{file} does not say {told}");
     }
+}
+
+#[test]
+fn what_people_read_is_told_from_code() {
+    for (file, text) in [
+        (
+            "a.md",
+            "One\ntwo.\n\n```\ncode\n```\n\n    code\n\nThree\n    four.\n",
+        ),
+        ("a.md", "One two.\n\n    code\n\nThree four.\n"),
+        (
+            "a.antt",
+            "-- One\n-- two.\ncode = code\ncode -- Three four.\n",
+        ),
+        (
+            "a.h",
+            "/* One\n * two. */\ncode;\ncode; /* Three four. */\n",
+        ),
+        ("a.rs", "//! One\n//! two.\n\"code\"\n    /// Three four.\n"),
+        ("a.rt", "// One two.\ncode\n    // Three\n    // four.\n"),
+        ("a.sh", "# One two.\n${code#code}\n# Three four.\n"),
+    ] {
+        let read = prose::paragraphs(Path::new(file), text);
+        let read: Vec<&str> = read.iter().map(|it| it.text.as_str()).collect();
+        assert_eq!(read, ["One two.", "Three four."], "{file}: {text}");
+    }
+}
+
+/// A paragraph of a page.
+fn paragraph(text: &str) -> Paragraph {
+    let page = Path::new("page.md");
+    prose::paragraphs(page, text).remove(0)
+}
+
+/// Whether the papers that say these words have the quotations of a text.
+fn quotes_them(text: &str) -> bool {
+    let said = "One byte an event. Bit 0 is the line: for a Clock,\nlow if the master or the device pulls it low.";
+    let papers = Papers::of(&[said]);
+    let quotations = quotations::quotations_in(&paragraph(text)).unwrap();
+    quotations.iter().all(|quotation| papers.have(quotation))
+}
+
+#[test]
+fn quotations_are_the_words_of_the_papers() {
+    for right in [
+        "01: \"Bit 0 is the line\"; \"low if the master\".",
+        "01: \"Bit 0\nis the line: for a Clock, low if\".",
+        "\"One byte .. is the line .. pulls it low.\"",
+        "\"bit 0\" and \"For a Clock\", but `\"code\"` is none",
+    ] {
+        assert!(quotes_them(right), "{right}");
+    }
+    for wrong in [
+        "01: \"Bit 0 is the line, read at this moment\".",
+        "\"is the line .. One byte\"",
+        "\"it is the line\"",
+        "\"the lin\"",
+        "\"the Line\"",
+        "\" .. \"",
+    ] {
+        assert!(!quotes_them(wrong), "{wrong}");
+    }
+    let unpaired = quotations::quotations_in(&paragraph("a mark \" alone"));
+    assert!(unpaired.is_err());
+}
+
+/// The papers are not in the tree. Where they are not at hand either, the list of sums stands for them.
+#[test]
+fn every_quotation_is_in_a_paper() {
+    let (quotations, mut faults) = quotations::all(&top());
+    assert!(quotations.len() > 1000, "{} are few", quotations.len());
+    if let Some(papers) = Papers::in_folder(&top().join("../shared")) {
+        faults.extend(papers.faults(&quotations));
+    }
+    let list = text_of(&top().join(quotations::LIST)).unwrap();
+    faults.extend(quotations::unlisted(&list, &quotations));
+    assert!(faults.is_empty(), "{}", faults.join("\n"));
+    let is_up_to_date = list == quotations::list_of(&quotations);
+    assert!(
+        is_up_to_date,
+        "`make quotations` writes {}",
+        quotations::LIST
+    );
 }
