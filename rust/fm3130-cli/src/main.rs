@@ -47,7 +47,7 @@ fn main() -> ExitCode {
         Err(failure) => {
             let words = failure.to_string();
             if !words.is_empty() {
-                eprintln!("fm3130: {words}");
+                output::say_aside(&words);
             }
             ExitCode::from(failure.exit_code())
         }

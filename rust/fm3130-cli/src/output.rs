@@ -1,5 +1,5 @@
 // SPDX-License-Identifier: Apache-2.0
-//! Standard output, whose reader may go away.
+//! Standard output and standard error, whose readers may go away.
 
 use std::io::{self, BufWriter, IsTerminal, StdoutLock, Write};
 
@@ -43,4 +43,10 @@ impl Output {
             .flush()
             .map_err(|error| Failure::of_output(&error))
     }
+}
+
+/// Says something on standard error. Where that cannot be written there is nobody to tell, and the exit code says the
+/// rest.
+pub fn say_aside(words: &str) {
+    let _ = writeln!(io::stderr(), "fm3130: {words}");
 }

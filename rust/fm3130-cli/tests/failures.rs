@@ -253,3 +253,47 @@ fn links_and_permissions_stay() {
         .mode();
     assert_eq!(mode & 0o777, 0o600);
 }
+
+/// A pipe whose reader has gone away.
+#[cfg(unix)]
+fn without_reader() -> std::process::Stdio {
+    let (one, _) = std::os::unix::net::UnixStream::pair().unwrap();
+    std::os::fd::OwnedFd::from(one).into()
+}
+
+#[test]
+#[cfg(unix)]
+fn an_error_that_cannot_be_written_is_no_panic() {
+    use std::process::Stdio;
+    let folder = folder_with_files("no-reader");
+    folder.write("long.bus", "[ A0 00 00 55:5000 ]");
+    let full = || Stdio::from(std::fs::File::create("/dev/full").unwrap());
+    let cases: [(&[&str], i32); 4] = [
+        (&["jump"], 2),
+        (&["run", "none.bus"], 1),
+        (&["run", "wrong.bus"], 3),
+        // Not a failure: the drawing is cut, and that is said.
+        (&["run", "long.bus", "--quiet", "--svg", "long.svg"], 0),
+    ];
+    for (words, code) in cases {
+        for errors in [without_reader(), full()] {
+            let ran = folder.run_to(words, Stdio::piped(), errors);
+            assert_eq!((ran.code, ran.output.as_str()), (code, ""), "{words:?}");
+        }
+    }
+}
+
+#[test]
+#[cfg(unix)]
+fn a_reader_that_goes_away_ends_the_command_quietly() {
+    use std::process::Stdio;
+    let folder = folder_with_files("reader-gone");
+    for words in [&["help"][..], &["run", "good.bus", "--memory", "memory"]] {
+        let before = folder.snapshot();
+        let ran = folder.run_to(words, without_reader(), Stdio::piped());
+        assert_eq!((ran.code, ran.errors.as_str()), (1, ""), "{words:?}");
+        assert!(folder.snapshot() == before, "{words:?} changed a file");
+    }
+    let ran = folder.run_to(&["help"], without_reader(), without_reader());
+    assert_eq!(ran.code, 1);
+}

@@ -16,6 +16,7 @@ use crate::bus::{Beside, BusByte, EdgeReport, Happening, Listener, PowerChange, 
 use crate::chip::State;
 use crate::failure::Outcome;
 use crate::files::Replacement;
+use crate::output::say_aside;
 use row::{Aside, Mark, Row};
 use wires::Wires;
 
@@ -233,9 +234,9 @@ impl Listener for Drawing<'_> {
         self.rows.push(last.into_text());
         let is_cut = self.cells > MOST_CELLS;
         if is_cut {
-            eprintln!(
-                "fm3130: the drawing stops after {MOST_CELLS} cells; --vcd has no such limit"
-            );
+            say_aside(&format!(
+                "the drawing stops after {MOST_CELLS} cells; --vcd has no such limit"
+            ));
         }
         let page = page::whole(&self.title, &self.rows, is_cut, self.has_lamps, &self.set);
         self.file.write(page.as_bytes())

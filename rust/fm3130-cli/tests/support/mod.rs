@@ -73,6 +73,19 @@ impl Folder {
         self.run_with(words, "")
     }
 
+    /// Runs the command with its two outputs going elsewhere.
+    pub fn run_to(&self, words: &[&str], output: Stdio, errors: Stdio) -> Ran {
+        let child = Command::new(env!("CARGO_BIN_EXE_fm3130"))
+            .args(words)
+            .current_dir(&self.path)
+            .stdin(Stdio::null())
+            .stdout(output)
+            .stderr(errors)
+            .spawn()
+            .unwrap();
+        Ran::of(child.wait_with_output().unwrap())
+    }
+
     /// Runs the command, which must succeed.
     pub fn succeed(&self, words: &[&str]) -> String {
         let ran = self.run(words);
