@@ -95,3 +95,48 @@ fn an_empty_script_plays_nothing() {
     assert!(printed.contains("Held by    nobody"));
     assert!(!printed.contains("bus: "));
 }
+
+/// The bytes that the last turn of a text reads.
+fn last_read(name: &str, text: &str) -> Vec<String> {
+    let printed = play(name, text);
+    let last = printed.rsplit("a: rig\n").next().unwrap();
+    let lines = last.lines().map(str::trim_start);
+    lines
+        .filter_map(|line| line.strip_prefix("read  "))
+        .map(|line| line[..3].to_string())
+        .collect()
+}
+
+/// A read of 00h is noticed by the other master: it clears AF and CF. So the page must not say otherwise.
+#[test]
+fn the_page_says_what_a_read_may_rely_on() {
+    // The oscillator runs, and no alarm field is selected: every second sets AF.
+    let begin = "a: [ D0 09 80:5 ] [ D0 01 00 ] t\n";
+    let read = "a: [ D0 00 [ D1 r ]\n";
+    let alone = last_read("share-alone", &format!("{begin}{read}"));
+    let other = last_read(
+        "share-other",
+        &format!("{begin}b: [ D0 02 [ D1 r ]\n{read}"),
+    );
+    let after = last_read(
+        "share-after",
+        &format!("{begin}b: [ D0 00 [ D1 r ]\n{read}"),
+    );
+    assert_eq!(
+        (alone.join(" "), other.join(" ")),
+        ("D0h".into(), "D0h".into())
+    );
+    assert_eq!(after, ["90h"]);
+    let page = Folder::new("share-page").succeed(&["help", "share"]);
+    let page: Vec<&str> = page.split_whitespace().collect();
+    let page = page.join(" ");
+    for condition in [
+        "From a device between transfers whose bus nobody holds",
+        "wrote none of the bytes that are read and no register and did not read 00h",
+        "got no number 7",
+        "each of its register reads set, acknowledged, earlier in the same transaction",
+        "the ticks and power events are the same",
+    ] {
+        assert!(page.contains(condition), "{condition}");
+    }
+}

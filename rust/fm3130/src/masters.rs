@@ -5,10 +5,17 @@
 //! the bus and calls; the bus is freed when a call ends whose last Stop, event 5 or event 6 has no
 //! Start after it, whoever made that call.
 //!
-//! A read that sets its address and reads in the same transaction gives the same bytes whatever the
-//! other master did before, if the other wrote none of those bytes and no register and did not read
-//! 00h. **A read from the current address has no such assurance**: both addresses are as the last
-//! transfer left them, whoever made it.
+//! A read may rely on this. From a device between transfers whose bus nobody holds, a transaction that
+//! sets its address and reads in the same transaction is answered the same, whatever the other master
+//! did before, if
+//!
+//! * the other wrote none of the bytes that are read and no register, and did not read 00h;
+//! * this master got no number 7, and the address of each of its register reads was set, acknowledged,
+//!   earlier in the same transaction;
+//! * the ticks and power events are the same.
+//!
+//! **A read from the current address has no such assurance**: both addresses are as the last transfer
+//! left them, whoever made it. Set the address, then read, in one transaction.
 //!
 //! ```
 //! use fm3130::masters::{share, Master};
