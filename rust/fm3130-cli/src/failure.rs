@@ -14,10 +14,13 @@ pub enum Failure {
     Files(String),
     /// The command line is wrong.
     CommandLine(String),
-    /// A script or an event file is wrong; the text shows the place.
+    /// A script or an event file is wrong, and the text shows the place; or a waveform cannot be judged.
     Script(String),
-    /// An image or a memory is refused, by 01's numbers, or a trim setting is not accepted.
+    /// An image or a memory is refused, by 01's numbers, a capture is malformed, or a trim setting is not
+    /// accepted.
     Refused(String),
+    /// A recorded answer is not the one that the rules give: the file is sound, and the part is not.
+    Differs(String),
     /// Whoever read standard output went away, as `head` does; there is nobody to tell.
     ReaderGone,
 }
@@ -33,6 +36,7 @@ impl Failure {
             Failure::CommandLine(_) => 2,
             Failure::Script(_) => 3,
             Failure::Refused(_) => 4,
+            Failure::Differs(_) => 5,
         }
     }
 
@@ -59,9 +63,10 @@ impl Failure {
 impl fmt::Display for Failure {
     fn fmt(&self, formatter: &mut fmt::Formatter<'_>) -> fmt::Result {
         match self {
-            Failure::Files(words) | Failure::Script(words) | Failure::Refused(words) => {
-                formatter.write_str(words)
-            }
+            Failure::Files(words)
+            | Failure::Script(words)
+            | Failure::Refused(words)
+            | Failure::Differs(words) => formatter.write_str(words),
             Failure::CommandLine(words) => {
                 write!(formatter, "{words}\ntry `fm3130 help`")
             }

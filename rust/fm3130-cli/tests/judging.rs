@@ -59,7 +59,7 @@ fn the_first_answer_that_differs_is_told_with_its_place() {
     file[answers + place + 3] ^= 1;
     folder.write("c", &file);
     let ran = folder.run(&["judge", "c", "--svg", "c.svg"]);
-    assert_eq!(ran.code, 4);
+    assert_eq!(ran.code, 5);
     assert_eq!(
         ran.errors,
         "fm3130: c: answer 76 differs: recorded 05h, right 04h\n"
@@ -102,7 +102,7 @@ fn a_difference_of_the_pin_and_bits_that_no_answer_has() {
         file[place] = recorded;
         folder.write("c", &file);
         let ran = folder.run(&["judge", "c"]);
-        assert_eq!(ran.code, 4);
+        assert_eq!(ran.code, 5);
         assert!(
             ran.output.contains("Place      after transaction 1\n"),
             "{}",
@@ -180,8 +180,10 @@ fn malformed_files_are_named_with_the_reason() {
         folder.write("bad", &file);
         let ran = folder.run(&["judge", "bad", "--svg", "no.svg"]);
         assert_eq!((ran.code, ran.output.as_str()), (4, ""), "{said}");
+        let undrawn = "fm3130: no.svg: not drawn, since nothing was judged\n";
         assert!(
-            ran.errors.starts_with(&format!("fm3130: bad: {said}")),
+            ran.errors
+                .starts_with(&format!("{undrawn}fm3130: bad: {said}")),
             "{}",
             ran.errors
         );
@@ -226,14 +228,22 @@ fn waveforms_of_scripts_without_ticks_agree() {
     ]);
     let count = folder.read("a").len();
     let said = folder.succeed(&["judge", "--from-vcd", "w.vcd"]);
-    assert_eq!(said, format!("all agree: {count} answers\n"));
+    // The acknowledges of 5 bytes; of 4, and 16 bits read; of 2, one of them refused; of 1, and 8 bits.
+    let answers = 5 + (4 + 16) + 2 + (1 + 8);
+    assert_eq!(
+        said,
+        format!(
+            "all agree: {answers} answers of the part, in {count} events\n\
+             not judged: 10 Clocks not for the part\n"
+        )
+    );
     // Another memory: the byte that is read is another, at its first bit.
     folder.write("w2.bus", "[ A0 01 23 [ A1 R ]");
     folder.succeed(&["run", "w2.bus", "--quiet", "--vcd", "w2.vcd"]);
     folder.write("memory", vec![0xFF; 8192]);
     let words = ["judge", "--from-vcd", "w2.vcd", "--memory", "memory"];
     let ran = folder.run(&words);
-    assert_eq!(ran.code, 4, "{}", ran.output);
+    assert_eq!(ran.code, 5, "{}", ran.output);
     assert!(ran
         .output
         .contains("Place      transaction 1, byte 5, clock 1\n"));
@@ -244,10 +254,14 @@ fn waveforms_of_scripts_without_ticks_agree() {
 #[test]
 fn a_waveform_without_the_acknowledge_differs() {
     let folder = Folder::new("judge-no-acknowledge");
-    folder.write("other.bus", "[ 41 ]");
+    folder.write("other.bus", "[ 41 ] [ A0 ]");
     folder.succeed(&["run", "other.bus", "--quiet", "--vcd", "other.vcd"]);
     let said = folder.succeed(&["judge", "--from-vcd", "other.vcd"]);
-    assert_eq!(said, "all agree: 11 answers\n");
+    assert_eq!(
+        said,
+        "all agree: 1 answers of the part, in 22 events\n\
+         not judged: 1 Clock not for the part\n"
+    );
     folder.write("ours.bus", "[ A1 ]");
     folder.succeed(&["run", "ours.bus", "--quiet", "--vcd", "ours.vcd"]);
     let text = String::from_utf8(folder.read("ours.vcd")).unwrap();
@@ -255,9 +269,21 @@ fn a_waveform_without_the_acknowledge_differs() {
     let (head, tail) = text.rsplit_once("0$\n0\"\n").expect("the acknowledge");
     folder.write("none.vcd", format!("{head}0$\n{tail}"));
     let ran = folder.run(&["judge", "--from-vcd", "none.vcd"]);
-    assert_eq!(ran.code, 4, "{}", ran.output);
+    assert_eq!(ran.code, 5, "{}", ran.output);
     let place = "Place      transaction 1, byte 1, clock 9, the acknowledge\n";
     assert!(ran.output.contains(place), "{}", ran.output);
+}
+
+/// The head of a waveform file with two wires.
+const HEAD: &str = "$var wire 1 ! SCL $end $var wire 1 \" SDA $end $enddefinitions $end\n";
+
+/// A transaction that names the part, as the wires show it from both high on: `[ A0 ]`.
+const NAMED: &str = "# 0\" # 0! # 1\" # 1! # 0! # 0\" # 1! # 0! # 1\" # 1! # 0! # 0\" # 1! # 0! # 1! # 0! # 1! # 0! \
+                     # 1! # 0! # 1! # 0! # 1! # 0! # 1! # 1\" ";
+
+/// Judges a waveform from standard input.
+fn judge_text(folder: &Folder, words: &[&str], text: &str) -> support::Ran {
+    folder.run_with(&[&["judge", "--from-vcd", "-"], words].concat(), text)
 }
 
 #[test]
@@ -272,15 +298,210 @@ fn waveforms_that_cannot_be_read_say_why() {
         assert_eq!(ran.code, code, "{}", ran.errors);
         assert!(ran.errors.contains(said), "{}", ran.errors);
     };
-    fails(&[], 3, "w.vcd: it has no wire SCL");
-    fails(&["--scl", "D0"], 3, "w.vcd: it has no wire SDA");
+    fails(&[], 3, "w.vcd: it has no wire SCL; its wires: D0, D1\n");
+    fails(
+        &["--scl", "D0"],
+        3,
+        "w.vcd: it has no wire SDA; its wires: D0, D1\n",
+    );
     fails(
         &["--scl", "D0", "--sda", "D1", "--memory", "none"],
         1,
         "none: no such file",
     );
-    let said = folder.succeed(&["judge", "--from-vcd", "w.vcd", "--scl", "D0", "--sda", "D1"]);
-    assert_eq!(said, "all agree: 0 answers\n");
+    fails(
+        &["--scl", "D0", "--sda", "D1"],
+        3,
+        "w.vcd: nothing to judge: it has no level of D0\n",
+    );
+    let ran = judge_text(&folder, &[], &HEAD.replace("$enddefinitions $end", ""));
+    assert_eq!(ran.code, 3);
+    let cut =
+        "standard input: it is no waveform file, or is cut: its head has no $enddefinitions\n";
+    assert_eq!(ran.errors, format!("fm3130: {cut}"));
+}
+
+/// SDA is low and SCL high when the recording begins, as on a bus that hangs: nobody saw a Start.
+#[test]
+fn a_recording_may_begin_with_a_hung_bus() {
+    let folder = Folder::new("judge-hung");
+    let nine = "# 0! # 1! ".repeat(9);
+    // The last bit of the nine is the first half of a tenth pulse, in which SDA rises: a Stop.
+    let freed = format!("{HEAD}#0 1! 0\" {nine}# 1\" {NAMED}#");
+    let ran = judge_text(&folder, &[], &freed);
+    assert_eq!(ran.code, 0, "{}{}", ran.output, ran.errors);
+    assert_eq!(
+        ran.output,
+        "all agree: 1 answers of the part, in 20 events\n\
+         not judged: 8 Clocks outside any transfer\n"
+    );
+    // With a Start before it this would be the part's slave byte A0h, not acknowledged.
+    let bits = [1, 0, 1, 0, 0, 0, 0, 0, 1].map(|bit| format!("# {bit}\" # 1! # 0! "));
+    let alike = format!(
+        "{HEAD}#0 1! 0\" # 0! {}# 0\" # 1! # 1\" {NAMED}#",
+        bits.concat()
+    );
+    let ran = judge_text(&folder, &[], &alike);
+    assert_eq!(ran.code, 0, "{}{}", ran.output, ran.errors);
+    assert!(ran
+        .output
+        .ends_with("not judged: 9 Clocks outside any transfer\n"));
+    let unnamed = judge_text(&folder, &[], &format!("{HEAD}#0 1! 0\" {nine}#"));
+    assert_eq!((unnamed.code, unnamed.output.as_str()), (3, ""));
+    assert_eq!(
+        unnamed.errors,
+        "fm3130: standard input: nothing to judge: 8 Clocks outside any transfer, \
+         and nothing that names the part\n"
+    );
+    let still = judge_text(&folder, &[], &format!("{HEAD}#0 1! 0\" #100"));
+    assert_eq!((still.code, still.output.as_str()), (3, ""));
+    assert!(still
+        .errors
+        .ends_with("at its end SCL is high and SDA is low\n"));
+}
+
+/// An image that stands inside a byte: the first levels are no Clock of it.
+#[test]
+fn a_recording_may_begin_inside_a_byte() {
+    let folder = Folder::new("judge-inside");
+    // A byte of zeros is read, and the bus hangs after two bits of it: the part holds SDA low.
+    folder.write("hang.bus", "[ A0 00 00 [ A1 {11}");
+    folder.succeed(&["run", "hang.bus", "--quiet", "--image", "image"]);
+    // The six others, the master's ninth, and a Stop.
+    let rest = format!(
+        "{}# 1\" # 1! # 0! # 0\" # 1! # 1\" #",
+        "# 1! # 0! ".repeat(6)
+    );
+    let judge = |begin: &str| {
+        judge_text(
+            &folder,
+            &["--image", "image"],
+            &format!("{HEAD}{begin} {rest}"),
+        )
+    };
+    let ran = judge("#0 0! 0\"");
+    assert_eq!(ran.code, 0, "{}{}", ran.output, ran.errors);
+    assert_eq!(
+        ran.output,
+        "all agree: 6 answers of the part, in 8 events\n"
+    );
+    let ran = judge("#0 1! 0\" # 0!");
+    assert_eq!((ran.code, ran.output.as_str()), (3, ""));
+    assert!(
+        ran.errors.contains("the image is inside a byte"),
+        "{}",
+        ran.errors
+    );
+    // The run's own waveform of what follows begins so, too.
+    let words = ["--image", "image", "--quiet", "--vcd", "rest.vcd"];
+    std::fs::copy(folder.file("image"), folder.file("before")).unwrap();
+    folder.run_with(&[&["run", "-"], &words[..]].concat(), "{1111111} ]");
+    let words = ["judge", "--from-vcd", "rest.vcd", "--image", "before"];
+    let said = folder.succeed(&words);
+    assert_eq!(said, "all agree: 6 answers of the part, in 8 events\n");
+}
+
+#[test]
+fn a_picture_that_is_not_drawn_is_said_and_no_old_one_stays() {
+    let folder = Folder::new("judge-undrawn");
+    folder.write("run.bus", "[ A0 ]");
+    folder.succeed(&[
+        "run",
+        "run.bus",
+        "--quiet",
+        "--capture",
+        "good",
+        "--vcd",
+        "w.vcd",
+    ]);
+    let mut file = folder.read("good");
+    let place = answers_of(&file) + 9;
+    file[place] ^= 1;
+    folder.write("wrong", &file);
+    folder.write("cut", &file[..100]);
+    folder.write("none.vcd", format!("{HEAD}#0 1! 0\" #1"));
+    let differs = |picture: &str| {
+        let ran = folder.run(&["judge", "wrong", "--svg", picture]);
+        assert_eq!(ran.code, 5);
+        assert!(folder.file(picture).exists() && !ran.errors.contains("drawn"));
+    };
+    for (words, code, why) in [
+        (&["good"][..], 0, "no answer differs"),
+        (&["cut"], 4, "nothing was judged"),
+        (&["--from-vcd", "w.vcd"], 0, "no answer differs"),
+        (&["--from-vcd", "none.vcd"], 3, "nothing was judged"),
+    ] {
+        let judge = [&["judge"], words, &["--svg", "p.svg"]].concat();
+        let line = |rest: &str| format!("fm3130: p.svg: not drawn, since {why}{rest}\n");
+        let ran = folder.run(&judge);
+        assert_eq!(ran.code, code, "{}", ran.errors);
+        assert!(ran.errors.starts_with(&line("")), "{}", ran.errors);
+        differs("p.svg");
+        let ran = folder.run(&judge);
+        let removed = line("; the one that was there is removed");
+        assert!(ran.errors.starts_with(&removed), "{}", ran.errors);
+        assert!(!folder.file("p.svg").exists());
+    }
+    // What fails before anything is judged leaves the picture as it is.
+    differs("p.svg");
+    for words in [
+        &["no-file"][..],
+        &["--from-vcd", "w.vcd", "--memory", "no-file"],
+    ] {
+        let ran = folder.run(&[&["judge"], words, &["--svg", "p.svg"]].concat());
+        assert_eq!(ran.code, 1);
+        assert!(folder.file("p.svg").exists());
+    }
+}
+
+/// A wrong part, a malformed file and a file that is not there have an exit code each.
+#[test]
+fn a_wrong_part_has_an_exit_code_of_its_own() {
+    let folder = Folder::new("judge-codes");
+    folder.write("run.bus", "[ A0 ]");
+    folder.succeed(&["run", "run.bus", "--quiet", "--capture", "good"]);
+    folder.write("zeros", [0; 64]);
+    let good = folder.read("good");
+    let mut wrong = good.clone();
+    wrong[answers_of(&good) + 9] ^= 1;
+    folder.write("wrong", &wrong);
+    folder.write("cut", &good[..100]);
+    folder.write("empty", "");
+    folder.write(
+        "unacknowledged.vcd",
+        format!("{HEAD}#0 1! 1\" {NAMED}#").replacen(
+            // The bit before the acknowledge is 0; SDA rises then, and so the part did not pull it.
+            "# 1! # 0! # 1! # 1\" #",
+            "# 1\" # 1! # 0! # 0\" # 1! # 1\" #",
+            1,
+        ),
+    );
+    let vcd = "unacknowledged.vcd";
+    for (words, code) in [
+        (&["good"][..], 0),
+        (&["none"], 1),
+        (&["good", "more"], 2),
+        (&["--from-vcd", "empty"], 3),
+        (&["cut"], 4),
+        (&["empty"], 4),
+        (&["--from-vcd", vcd, "--image", "zeros"], 4),
+        (&["wrong"], 5),
+        (&["--from-vcd", vcd], 5),
+    ] {
+        let ran = folder.run(&[&["judge"], words].concat());
+        assert_eq!(ran.code, code, "{words:?}: {}", ran.errors);
+    }
+}
+
+/// Of nothing it is not said that it agrees.
+#[test]
+fn a_capture_without_events_has_no_answers() {
+    let folder = Folder::new("judge-empty");
+    folder.run_with(&["run", "-", "--quiet", "--capture", "c"], "# nothing");
+    assert_eq!(
+        folder.succeed(&["judge", "c"]),
+        "no answers: the capture has no events\n"
+    );
 }
 
 /// The bytes of docs/CAPTURE.md's example are those of the file that its command writes.

@@ -2,7 +2,6 @@
 //! `fm3130 judge`: the verdict on a capture, or on a waveform of the two wires.
 
 use std::ffi::OsString;
-use std::io::Read;
 use std::path::{Path, PathBuf};
 
 use fm3130::capture::{self, Capture, Fault, Verdict};
@@ -14,9 +13,9 @@ use crate::chip::{Chip, Part, State};
 use crate::drawing::Drawing;
 use crate::failure::{Failure, Outcome};
 use crate::files::{self, NamedFile, Replacement};
-use crate::output::Output;
+use crate::output::{say_aside, Output};
 use crate::place::{self, Place};
-use crate::recording;
+use crate::recording::{self, Giver, Seen};
 use crate::source::ListSource;
 use crate::transcript::Transcript;
 
@@ -43,29 +42,52 @@ const MOST_WAVEFORM_BYTES: usize = 64 << 20;
 pub fn command(words: Vec<OsString>) -> Outcome {
     let arguments = Arguments::sort(words, &OPTIONS)?;
     arguments.at_most(1)?;
-    let plain = arguments.plain.first().map(PathBuf::from);
-    let (path, file) = match (plain, arguments.path("--from-vcd")) {
-        (Some(_), Some(_)) => return Err(wrong("judge takes a FILE or --from-vcd, not both")),
-        (None, None) => return Err(wrong("judge needs a FILE or --from-vcd FILE")),
-        (Some(path), None) => {
-            test_options(&arguments)?;
-            let file = load(&path)?;
-            (path, file)
+    let recorded = Recorded::named(&arguments)?;
+    let mut picture = Picture::asked(arguments.path("--svg"));
+    picture.must_not_replace(recorded.path())?;
+    let told = match &recorded {
+        Recorded::Capture(path) => {
+            let file = files::read_or_input(path, capture::MOST_BYTES)?;
+            judge_capture(path, &file, &mut picture)
         }
-        (None, Some(path)) => {
-            let file = capture_of(&path, &arguments)?;
-            (path, file)
+        Recorded::Waveform(path) => {
+            let begin = starting_device(&arguments)?;
+            let bytes = files::read_or_input(path, MOST_WAVEFORM_BYTES)?;
+            judge_waveform(path, &bytes, &begin, &wire_names(&arguments), &mut picture)
         }
     };
-    let svg = arguments.path("--svg");
-    if let Some(target) = &svg {
-        let named = |option, path| NamedFile { option, path };
-        files::must_differ(&[
-            named("FILE", path.as_path()),
-            named("--svg", target.as_path()),
-        ])?;
+    match told {
+        // What could not be written may well be the picture.
+        Err(Failure::Files(_)) => told,
+        _ => picture.settle(&told).and(told),
     }
-    tell(&path, &file, svg.as_deref())
+}
+
+/// What is judged, with its file; `-` is standard input.
+enum Recorded {
+    Capture(PathBuf),
+    Waveform(PathBuf),
+}
+
+impl Recorded {
+    fn named(arguments: &Arguments) -> Outcome<Recorded> {
+        let plain = arguments.plain.first().map(PathBuf::from);
+        match (plain, arguments.path("--from-vcd")) {
+            (Some(_), Some(_)) => Err(wrong("judge takes a FILE or --from-vcd, not both")),
+            (None, None) => Err(wrong("judge needs a FILE or --from-vcd FILE")),
+            (None, Some(path)) => Ok(Recorded::Waveform(path)),
+            (Some(path), None) => {
+                test_options(arguments)?;
+                Ok(Recorded::Capture(path))
+            }
+        }
+    }
+
+    fn path(&self) -> &Path {
+        match self {
+            Recorded::Capture(path) | Recorded::Waveform(path) => path,
+        }
+    }
 }
 
 /// The options that go with a waveform only.
@@ -77,44 +99,157 @@ fn test_options(arguments: &Arguments) -> Outcome {
     }
 }
 
-/// A capture; `-` is standard input. One byte more than the longest is read at most.
-fn load(path: &Path) -> Outcome<Vec<u8>> {
-    if path != Path::new("-") {
-        return files::read_at_most(path, capture::MOST_BYTES);
-    }
-    let mut file = Vec::new();
-    std::io::stdin()
-        .lock()
-        .take(capture::MOST_BYTES as u64 + 1)
-        .read_to_end(&mut file)
-        .map_err(|error| Failure::of_file(path, &error))?;
-    Ok(file)
-}
-
-/// A capture made of a waveform: the line is the recorded one, and the ACS pin, which the two wires
-/// do not show, that of the rules.
-fn capture_of(path: &Path, arguments: &Arguments) -> Outcome<Vec<u8>> {
-    let begin = starting_device(arguments)?;
-    let name = |option, otherwise: &str| {
+/// The names of the clock's wire and of the data's.
+fn wire_names(arguments: &Arguments) -> [String; 2] {
+    [("--scl", "SCL"), ("--sda", "SDA")].map(|(option, otherwise)| {
         let given = arguments.path(option);
         given.map_or(otherwise.to_string(), |name| {
             name.to_string_lossy().into_owned()
         })
-    };
-    let bytes = files::read_at_most(path, MOST_WAVEFORM_BYTES)?;
-    if bytes.len() > MOST_WAVEFORM_BYTES {
-        return Err(of_waveform(path, "the file is longer than 64 MiB"));
+    })
+}
+
+/// The picture that was asked for, if one was.
+struct Picture {
+    path: Option<PathBuf>,
+    is_drawn: bool,
+}
+
+impl Picture {
+    fn asked(path: Option<PathBuf>) -> Picture {
+        Picture {
+            path,
+            is_drawn: false,
+        }
     }
-    let text = String::from_utf8_lossy(&bytes);
-    let (clock, data) = (name("--scl", "SCL"), name("--sda", "SDA"));
-    let seen = recording::read(&text, &clock, &data, &begin.state())
-        .map_err(|problem| of_waveform(path, &problem))?;
+
+    /// Refuses a picture in the place of what is judged.
+    fn must_not_replace(&self, file: &Path) -> Outcome {
+        let named = |option, path| NamedFile { option, path };
+        match &self.path {
+            Some(path) if !files::is_input(file) => {
+                files::must_differ(&[named("FILE", file), named("--svg", path)])
+            }
+            _ => Ok(()),
+        }
+    }
+
+    /// Draws the wires around an answer that differs.
+    fn draw(&mut self, shown: &Shown, index: usize) -> Outcome {
+        let Some(path) = &self.path else {
+            return Ok(());
+        };
+        let mut drawn = Replacement::open(path)?;
+        let title = format!(
+            "Event {index}: {}. By the rules; the recording differs at the arrow.",
+            shown.place
+        );
+        let begin = State::from(shown.device.state());
+        let mut drawing = Drawing::new(&mut drawn, &title, &begin, None);
+        if let Some(clock) = shown.clock {
+            drawing.point_at(clock, "differs", shown.pin_before);
+        }
+        shown.play(&mut drawing)?;
+        self.is_drawn = true;
+        files::commit_all(vec![drawn])
+    }
+
+    /// Says so where nothing was drawn. An old picture is of another recording, and does not stay.
+    fn settle(&self, told: &Outcome) -> Outcome {
+        let Some(path) = self.path.as_ref().filter(|_| !self.is_drawn) else {
+            return Ok(());
+        };
+        let why = match told {
+            Ok(()) | Err(Failure::ReaderGone) => "no answer differs",
+            Err(_) => "nothing was judged",
+        };
+        let removed = match files::remove(path)? {
+            true => "; the one that was there is removed",
+            false => "",
+        };
+        say_aside(&format!(
+            "{}: not drawn, since {why}{removed}",
+            path.display()
+        ));
+        Ok(())
+    }
+}
+
+/// Judges a capture.
+fn judge_capture(path: &Path, file: &[u8], picture: &mut Picture) -> Outcome {
+    tell(path, file, picture, |count| match count {
+        0 => vec!["no answers: the capture has no events".to_string()],
+        count => vec![Verdict::Agree { count }.to_string()],
+    })
+}
+
+/// Says the verdict on a capture; all but an agreement, whose words are given, is a failure.
+fn tell(
+    path: &Path,
+    file: &[u8],
+    picture: &mut Picture,
+    agreement: impl Fn(usize) -> Vec<String>,
+) -> Outcome {
+    let verdict = capture::judge(file);
+    let words = format!("{}: {verdict}", files::name_of(path));
+    match verdict {
+        Verdict::Agree { count } => {
+            let mut output = Output::new();
+            for line in agreement(count) {
+                output.line(&line)?;
+            }
+            output.finish()
+        }
+        Verdict::Differs {
+            place,
+            recorded,
+            right,
+        } => {
+            tell_difference(file, place, (Answer(recorded), Answer(right)), picture)?;
+            Err(Failure::Differs(words))
+        }
+        Verdict::Faulty { entry } => {
+            let why = Fault::of(file, entry).map(|fault| format!(": {fault}"));
+            Err(Failure::Refused(words + &why.unwrap_or_default()))
+        }
+        Verdict::TooLong => Err(Failure::Refused(words)),
+    }
+}
+
+/// Judges a waveform, as a capture that begins with a device.
+fn judge_waveform(
+    path: &Path,
+    bytes: &[u8],
+    begin: &Device,
+    [clock, data]: &[String; 2],
+    picture: &mut Picture,
+) -> Outcome {
+    let of_waveform =
+        |problem: &str| Failure::Script(format!("{}: {problem}", files::name_of(path)));
+    if bytes.len() > MOST_WAVEFORM_BYTES {
+        return Err(of_waveform("the file is longer than 64 MiB"));
+    }
+    let text = String::from_utf8_lossy(bytes);
+    let seen = recording::read(&text, clock, data, &begin.state())
+        .map_err(|problem| of_waveform(&problem))?;
+    let file = capture_of(&seen, begin)?.ok_or_else(|| {
+        let (found, most) = (seen.len(), capture::MOST_EVENTS);
+        of_waveform(&format!(
+            "{found} events are too many; a capture holds {most}"
+        ))
+    })?;
+    tell(path, &file, picture, |_| agreement_of(&seen))
+}
+
+/// A capture made of a waveform: the line is the recorded one, and the ACS pin, which the two wires
+/// do not show, that of the rules. Nothing where it would be too long.
+fn capture_of(seen: &[Seen], begin: &Device) -> Outcome<Option<Vec<u8>>> {
     let events: Vec<u8> = seen.iter().map(|one| one.event).collect();
     let mut answers = begin
         .clone()
         .run(&events)
-        .map_err(|refusal| Failure::of_refusal(path, refusal))?;
-    for (answer, one) in answers.iter_mut().zip(&seen) {
+        .map_err(|refusal| Failure::Refused(refusal.to_string()))?;
+    for (answer, one) in answers.iter_mut().zip(seen) {
         *answer = *answer & !1 | u8::from(one.line_is_high);
     }
     let capture = Capture {
@@ -123,19 +258,7 @@ fn capture_of(path: &Path, arguments: &Arguments) -> Outcome<Vec<u8>> {
         events: &events,
         answers: &answers,
     };
-    let too_many = || {
-        let (found, most) = (events.len(), capture::MOST_EVENTS);
-        of_waveform(
-            path,
-            &format!("{found} events are too many; a capture holds {most}"),
-        )
-    };
-    capture.to_file().ok_or_else(too_many)
-}
-
-/// A waveform file that is none, or none that can be judged.
-fn of_waveform(path: &Path, problem: &str) -> Failure {
-    Failure::Script(format!("{}: {problem}", path.display()))
+    Ok(capture.to_file())
 }
 
 /// The device that a waveform begins with: fresh but for the files that are named, which must be there.
@@ -159,36 +282,23 @@ fn there(loaded: files::Loaded, path: &Path) -> Outcome<Vec<u8>> {
     }
 }
 
-/// Says the verdict; all but an agreement is a failure.
-fn tell(path: &Path, file: &[u8], svg: Option<&Path>) -> Outcome {
-    let verdict = capture::judge(file);
-    let mut output = Output::new();
-    match verdict {
-        Verdict::Agree { .. } => output.line(&verdict.to_string())?,
-        Verdict::Differs {
-            place,
-            recorded,
-            right,
-        } => tell_difference(
-            file,
-            place,
-            (Answer(recorded), Answer(right)),
-            svg,
-            &mut output,
-        )?,
-        Verdict::Faulty { .. } | Verdict::TooLong => {}
+/// How many Clocks the part has answered as the rules do, and how many were not its own to answer.
+fn agreement_of(seen: &[Seen]) -> Vec<String> {
+    let mut lines = vec![format!(
+        "all agree: {} answers of the part, in {} events",
+        recording::count(seen, Giver::Part),
+        seen.len()
+    )];
+    for (giver, words) in [
+        (Giver::Anybody, "outside any transfer"),
+        (Giver::Others, "not for the part"),
+    ] {
+        match recording::count(seen, giver) {
+            0 => {}
+            count => lines.push(format!("not judged: {} {words}", recording::clocks(count))),
+        }
     }
-    output.finish()?;
-    let why = match verdict {
-        Verdict::Agree { .. } => return Ok(()),
-        Verdict::Faulty { entry } => Fault::of(file, entry).map(|fault| format!(": {fault}")),
-        _ => None,
-    };
-    let why = why.unwrap_or_default();
-    Err(Failure::Refused(format!(
-        "{}: {verdict}{why}",
-        path.display()
-    )))
+    lines
 }
 
 /// The event, its place, what differs, and what the rules say happened around it.
@@ -196,12 +306,14 @@ fn tell_difference(
     file: &[u8],
     index: usize,
     (recorded, right): (Answer, Answer),
-    svg: Option<&Path>,
-    output: &mut Output,
+    picture: &mut Picture,
 ) -> Outcome {
     let Some(shown) = Shown::around(file, index) else {
         return Ok(());
     };
+    // First, so that a reader who goes away does not matter to it.
+    picture.draw(&shown, index)?;
+    let mut output = Output::new();
     let name = format!("Event {index}");
     let words = place::event_words(shown.place.event);
     output.line(&format!("{name:<10} {words}"))?;
@@ -211,22 +323,8 @@ fn tell_difference(
     }
     output.line("")?;
     output.line("By the rules, around it:")?;
-    shown.play(&mut Transcript::new(output))?;
-    let Some(target) = svg else {
-        return Ok(());
-    };
-    let mut drawn = Replacement::open(target)?;
-    let title = format!(
-        "Event {index}: {}. By the rules; the recording differs at the arrow.",
-        shown.place
-    );
-    let begin = State::from(shown.device.state());
-    let mut drawing = Drawing::new(&mut drawn, &title, &begin, None);
-    if let Some(clock) = shown.clock {
-        drawing.point_at(clock, "differs", shown.pin_before);
-    }
-    shown.play(&mut drawing)?;
-    files::commit_all(vec![drawn])
+    shown.play(&mut Transcript::new(&mut output))?;
+    output.finish()
 }
 
 /// What differs between two answers, a line each.

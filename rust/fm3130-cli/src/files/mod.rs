@@ -12,7 +12,7 @@ pub use plan::{has_plan, must_hold_one, plan_beside, plan_words};
 pub use replacement::{commit_all, Replacement};
 
 use std::fs;
-use std::io::Read;
+use std::io::{self, Read};
 use std::path::Path;
 
 use crate::failure::{Failure, Outcome};
@@ -32,4 +32,43 @@ pub fn read_at_most(path: &Path, most: usize) -> Outcome<Vec<u8>> {
         .read_to_end(&mut bytes)
         .map_err(|error| Failure::of_file(path, &error))?;
     Ok(bytes)
+}
+
+/// Whether a path stands for standard input.
+pub fn is_input(path: &Path) -> bool {
+    path == Path::new("-")
+}
+
+/// What a file is called in words.
+pub fn name_of(path: &Path) -> String {
+    match is_input(path) {
+        true => "standard input".to_string(),
+        false => path.display().to_string(),
+    }
+}
+
+/// The bytes of a file, or of standard input; at most one more than the most is read.
+pub fn read_or_input(path: &Path, most: usize) -> Outcome<Vec<u8>> {
+    if !is_input(path) {
+        return read_at_most(path, most);
+    }
+    let mut bytes = Vec::new();
+    io::stdin()
+        .lock()
+        .take(most as u64 + 1)
+        .read_to_end(&mut bytes)
+        .map_err(|error| Failure::Files(format!("{}: {error}", name_of(path))))?;
+    Ok(bytes)
+}
+
+/// Removes a file; whether one was there. A device such as `/dev/null` stays.
+pub fn remove(path: &Path) -> Outcome<bool> {
+    if !path.is_file() {
+        return Ok(false);
+    }
+    // A link stays a link: the file that it leads to is removed.
+    fs::canonicalize(path)
+        .and_then(fs::remove_file)
+        .map(|()| true)
+        .map_err(|error| Failure::of_file(path, &error))
 }
