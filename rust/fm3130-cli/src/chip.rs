@@ -10,6 +10,9 @@ use fm3130::event::{CLOCK_HIGH, CLOCK_LOW};
 use fm3130::family::{self, Counts, Fm31256, Fm3164, Member, Select, Size};
 use fm3130::{Calendar, Device, NextLine, Phase, Pin, PinFunction, Power, Rolled, UNANSWERED};
 
+/// Where the mark of an image stands, in every part's layout.
+const MARK: usize = 61;
+
 /// A part that can be chosen.
 #[derive(Clone, Copy, Debug, PartialEq, Eq)]
 pub enum Part {
@@ -107,6 +110,27 @@ impl Part {
             Part::Fm3130 => fm3130::Refusal::MemoryLength.into(),
             Part::Family(_) => family::Refusal::MemoryLength.into(),
         }
+    }
+
+    /// The mark of its images, which the sizes of the family share: docs/IMAGE.md and docs/FAMILY.md.
+    fn mark(self) -> [u8; 2] {
+        match self {
+            Part::Fm3130 => [0x31, 0x30],
+            Part::Family(_) => [0x31, 0xCC],
+        }
+    }
+
+    /// Whose an image is, in words, if by its mark it is another part's.
+    pub fn other_owner(self, image: &[u8]) -> Option<&'static str> {
+        let marked = image.get(MARK..MARK + 2)?;
+        let owners = [
+            (Part::Fm3130, "an FM3130"),
+            (Part::Family(Size::Kb64), "an FM3164 or an FM31256"),
+        ];
+        let mut others = owners
+            .into_iter()
+            .filter(|(part, _)| part.mark() == marked && part.mark() != self.mark());
+        others.next().map(|(_, words)| words)
     }
 
     /// A part of a memory or of registers, as the part's viewer gives it.
@@ -461,6 +485,26 @@ mod tests {
         }
         assert_eq!(Part::of_word("FM3164"), Some(Part::Family(Size::Kb64)));
         assert_eq!(Part::of_word("fm3127"), None);
+    }
+
+    #[test]
+    fn an_image_is_known_by_its_mark() {
+        for part in trial::PARTS {
+            for other in trial::PARTS {
+                let image = Chip::fresh(other).image().to_vec();
+                let is_other = part.has_counters() != other.has_counters();
+                assert_eq!(part.other_owner(&image).is_some(), is_other);
+                assert_eq!(
+                    Chip::from_parts(part, &image, Chip::fresh(part).memory()).is_err(),
+                    is_other
+                );
+            }
+            assert_eq!(part.other_owner(&[0; 64]), None);
+            assert_eq!(part.other_owner(&[0; 62]), None);
+        }
+        let counters = Chip::fresh(Part::Family(Size::Kb256));
+        let owner = Part::Fm3130.other_owner(counters.image());
+        assert_eq!(owner, Some("an FM3164 or an FM31256"));
     }
 
     #[test]

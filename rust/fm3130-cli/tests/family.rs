@@ -229,3 +229,76 @@ fn the_part_may_be_named_where_there_is_no_choice() {
     assert_eq!(folder.succeed(&["trim", "--part", "fm3130", "-600"]), plain);
     assert_eq!(folder.succeed(&["trim", "--part=FM3130", "-600"]), plain);
 }
+
+/// Wherever an image is read, one of another part is refused and named.
+#[test]
+fn an_image_of_another_part_is_named() {
+    let folder = Folder::new("family-other");
+    folder.succeed(&["fresh", "--image", "clock", "--memory", "memory"]);
+    for part in ["fm3164", "fm31256"] {
+        folder.succeed(&["fresh", "--image", part, "--part", part]);
+    }
+    folder.run_with(
+        &["run", "-", "--quiet", "--vcd", "w.vcd", "--capture", "c"],
+        "[ A0 ]",
+    );
+    let mut capture = folder.read("c");
+    capture[48..48 + 64].copy_from_slice(&folder.read("fm3164"));
+    folder.write("c", &capture);
+    let counting = "it is the image of an FM3164 or an FM31256";
+    let clock = "it is the image of an FM3130, not of an FM31256";
+    let cases: [(&[&str], &str); 9] = [
+        (&["view", "--registers", "--image", "fm3164"], counting),
+        (
+            &["view", "--registers", "--image", "fm31256", "0", "1"],
+            counting,
+        ),
+        (
+            &["view", "--memory", "memory", "--image", "fm3164"],
+            counting,
+        ),
+        (
+            &[
+                "view",
+                "--registers",
+                "--image",
+                "clock",
+                "--part",
+                "fm31256",
+            ],
+            clock,
+        ),
+        (&["run", "-", "--image", "fm3164"], counting),
+        (
+            &["run", "-", "--image", "clock", "--part", "fm31256"],
+            clock,
+        ),
+        (&["mend", "--image", "fm3164"], counting),
+        (
+            &["judge", "--from-vcd", "w.vcd", "--image", "fm31256"],
+            counting,
+        ),
+        (&["judge", "c"], counting),
+    ];
+    for (words, said) in cases {
+        let before = folder.snapshot();
+        let ran = folder.run_with(words, "t");
+        assert_eq!(
+            (ran.code, ran.output.as_str()),
+            (4, ""),
+            "{words:?}: {}",
+            ran.errors
+        );
+        assert!(ran.errors.contains(said), "{words:?}: {}", ran.errors);
+        assert!(folder.snapshot() == before, "{words:?} changed a file");
+    }
+    // The two sizes have one mark.
+    folder.succeed(&[
+        "view",
+        "--registers",
+        "--image",
+        "fm3164",
+        "--part",
+        "fm31256",
+    ]);
+}

@@ -4,7 +4,7 @@
 use std::ffi::OsString;
 use std::path::{Path, PathBuf};
 
-use fm3130::capture::{self, Capture, Fault, Verdict};
+use fm3130::capture::{self, Capture, Entry, Fault, Verdict};
 use fm3130::{Answer, Device};
 
 use crate::arguments::{wrong, Arguments, Options};
@@ -208,12 +208,25 @@ fn tell(
             tell_difference(file, place, (Answer(recorded), Answer(right)), picture)?;
             Err(Failure::Differs(words))
         }
-        Verdict::Faulty { entry } => {
-            let why = Fault::of(file, entry).map(|fault| format!(": {fault}"));
-            Err(Failure::Refused(words + &why.unwrap_or_default()))
-        }
+        Verdict::Faulty { entry } => Err(Failure::Refused(words + &reason(file, entry))),
         Verdict::TooLong => Err(Failure::Refused(words)),
     }
+}
+
+/// Why an entry is faulty, in words. An image of another part is no image here, and its mark says whose it is.
+fn reason(file: &[u8], entry: usize) -> String {
+    let Some(fault) = Fault::of(file, entry) else {
+        return String::new();
+    };
+    let image = Entry::at(file, entry - 1)
+        .filter(|_| fault == Fault::Image)
+        .and_then(|found| {
+            file.get(found.offset as usize..)?
+                .get(..found.length as usize)
+        });
+    let owner = image.and_then(|image| Part::Fm3130.other_owner(image));
+    let whose = owner.map(|owner| format!("; it is the image of {owner}"));
+    format!(": {fault}{}", whose.unwrap_or_default())
 }
 
 /// Judges a waveform, as a capture that begins with a device.

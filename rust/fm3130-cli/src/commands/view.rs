@@ -28,6 +28,7 @@ pub fn command(words: Vec<OsString>) -> Outcome {
     let shows_registers = arguments.has("--registers");
     let parts = Parts::read(&arguments, shows_registers)?;
     let (start, length) = extent(&arguments.plain, parts.part, shows_registers)?;
+    parts.must_be_of_one_part()?;
     let selector = if shows_registers {
         selector::REGISTERS
     } else {
@@ -86,6 +87,18 @@ impl Parts {
             image_path,
             memory_path,
         })
+    }
+
+    /// Refuses an image whose mark is another part's: its bytes would be shown as registers that it has not.
+    fn must_be_of_one_part(&self) -> Outcome {
+        match (&self.image_path, self.part.other_owner(&self.image)) {
+            (Some(path), Some(owner)) => Err(Failure::Refused(format!(
+                "{}: it is the image of {owner}, not of an {}; --part chooses the part",
+                path.display(),
+                self.part
+            ))),
+            _ => Ok(()),
+        }
     }
 
     /// The refusal, with the file that it is about.

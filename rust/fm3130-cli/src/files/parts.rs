@@ -8,7 +8,7 @@ use fm3130::family::{Select, Size};
 use fm3130::IMAGE_BYTES;
 
 use super::{exists, plan, read_at_most};
-use crate::chip::{Chip, Part};
+use crate::chip::{Chip, Part, Refused};
 use crate::failure::{Failure, Outcome};
 
 /// Bytes of a part, and whether a file gave them.
@@ -24,8 +24,19 @@ pub fn load_image(path: &Path, part: Part) -> Outcome<Loaded> {
     let fresh = Chip::fresh(part);
     let loaded = load(path, IMAGE_BYTES, fresh.image(), part.wrong_image())?;
     Chip::from_parts(part, &loaded.bytes, fresh.memory())
-        .map_err(|refusal| Failure::of_refusal(path, refusal))?;
+        .map_err(|refusal| refused_image(path, part, &loaded.bytes, refusal))?;
     Ok(loaded)
+}
+
+/// An image that a part refuses; if it is another part's, that is the reason.
+fn refused_image(path: &Path, part: Part, image: &[u8], refusal: Refused) -> Failure {
+    match part.other_owner(image) {
+        None => Failure::of_refusal(path, refusal),
+        Some(owner) => Failure::Refused(format!(
+            "{}: it is the image of {owner}, not of an {part}: {refusal}",
+            path.display()
+        )),
+    }
 }
 
 /// The memory of a part in a file, tested; or an empty memory if there is no such file.
