@@ -12,10 +12,12 @@
 //! * `panel`: the lamps of the proving record beside what happened.
 //! * `sharing`: two masters in turns, as text and SVG.
 //! * `trimming`: what trim settings leave of an error, as text.
+//! * `amount`: how much is about to be written.
 //! * `files`, `output`, `progress`, `arguments`, `failure`: the world outside.
 
 #![forbid(unsafe_code)]
 
+mod amount;
 mod arguments;
 mod bus;
 mod chip;

@@ -9,6 +9,7 @@ use std::path::{Path, PathBuf};
 use fm3130::event;
 use fm3130::family::edge_2;
 
+use crate::amount::Tally;
 use crate::chip::Part;
 use crate::failure::{Failure, Outcome};
 use crate::script::Plan;
@@ -23,6 +24,9 @@ const LONG: u64 = 60;
 pub trait Source {
     /// The number of events of the whole source.
     fn total(&self) -> u64;
+
+    /// How many events of each kind it has.
+    fn tally(&self) -> Tally;
 
     /// Puts the next events into a chunk, at most [`CHUNK`]; none at the end.
     fn fill(&mut self, chunk: &mut Vec<u8>) -> Outcome;
@@ -64,6 +68,10 @@ impl PlanSource {
 impl Source for PlanSource {
     fn total(&self) -> u64 {
         self.plan.total()
+    }
+
+    fn tally(&self) -> Tally {
+        self.plan.tally()
     }
 
     fn fill(&mut self, chunk: &mut Vec<u8>) -> Outcome {
@@ -116,6 +124,12 @@ impl Source for ListSource<'_> {
         self.events.len() as u64
     }
 
+    fn tally(&self) -> Tally {
+        let mut tally = Tally::default();
+        self.events.iter().for_each(|event| tally.add(*event, 1));
+        tally
+    }
+
     fn fill(&mut self, chunk: &mut Vec<u8>) -> Outcome {
         let rest = &self.events[self.given..];
         chunk.clear();
@@ -129,7 +143,7 @@ impl Source for ListSource<'_> {
 pub struct FileSource {
     path: PathBuf,
     file: File,
-    total: u64,
+    tally: Tally,
 }
 
 impl FileSource {
@@ -151,10 +165,9 @@ impl FileSource {
             let words = format!("{}: not a regular file", path.display());
             return Err(Failure::Files(words));
         }
-        let total = test_events(FileSource::open_untested(path)?, last, unknown)?;
-        let mut source = FileSource::open_untested(path)?;
-        source.total = total;
-        Ok(source)
+        let tally = test_events(FileSource::open_untested(path)?, last, unknown)?;
+        let source = FileSource::open_untested(path)?;
+        Ok(FileSource { tally, ..source })
     }
 
     fn open_untested(path: &Path) -> Outcome<FileSource> {
@@ -162,14 +175,18 @@ impl FileSource {
         Ok(FileSource {
             path: path.to_path_buf(),
             file,
-            total: 0,
+            tally: Tally::default(),
         })
     }
 }
 
 impl Source for FileSource {
     fn total(&self) -> u64 {
-        self.total
+        self.tally.events()
+    }
+
+    fn tally(&self) -> Tally {
+        self.tally
     }
 
     fn fill(&mut self, chunk: &mut Vec<u8>) -> Outcome {
@@ -182,25 +199,25 @@ impl Source for FileSource {
     }
 }
 
-/// The number of events of a source, none of which is above the last that is known.
-fn test_events(mut source: FileSource, last: u8, unknown: &dyn fmt::Display) -> Outcome<u64> {
+/// How many events a source has, none of which is above the last that is known.
+fn test_events(mut source: FileSource, last: u8, unknown: &dyn fmt::Display) -> Outcome<Tally> {
     let mut chunk = Vec::new();
-    let mut total = 0;
+    let mut tally = Tally::default();
     loop {
         source.fill(&mut chunk)?;
         if chunk.is_empty() {
-            return Ok(total);
+            return Ok(tally);
         }
         if let Some(place) = chunk.iter().position(|byte| *byte > last) {
             return Err(Failure::Script(format!(
                 "{}: byte {} is {:02X}h: {}",
                 source.path.display(),
-                total + place as u64,
+                tally.events() + place as u64,
                 chunk[place],
                 unknown
             )));
         }
-        total += chunk.len() as u64;
+        chunk.iter().for_each(|event| tally.add(*event, 1));
     }
 }
 

@@ -6,6 +6,7 @@ use std::path::{Path, PathBuf};
 
 use fm3130::family::{Member, Select, Set};
 
+use crate::amount::{self, Amount};
 use crate::arguments::{wrong, Arguments, Options};
 use crate::chip::Part;
 use crate::failure::Outcome;
@@ -18,11 +19,14 @@ use crate::source::{FileSource, PlanSource, Source};
 
 const OPTIONS: Options = Options {
     with_value: &["-o", "--list", "--part"],
-    alone: &[],
+    alone: &[amount::OPTION],
 };
 
 /// Event bytes on a line of text.
 const BYTES_OF_A_LINE: usize = 24;
+
+/// What an event takes as text: two digits, and what stands between it and the next.
+const BYTES_AS_TEXT: u64 = 3;
 
 /// Writes the events of a script, or the script of some events.
 pub fn command(words: Vec<OsString>) -> Outcome {
@@ -30,18 +34,19 @@ pub fn command(words: Vec<OsString>) -> Outcome {
     arguments.at_most(1)?;
     let script = arguments.plain.first().map(PathBuf::from);
     let target = arguments.path("-o");
+    let is_large = arguments.has(amount::OPTION);
     let asked = Asked::of(&arguments)?;
     match (script, arguments.path("--list")) {
         (Some(_), Some(_)) => Err(wrong("events takes a SCRIPT or --list, not both")),
         (None, None) => Err(wrong("events needs a SCRIPT or --list FILE")),
         (None, Some(_)) if target.is_some() => Err(wrong("--list prints; it takes no -o")),
         (None, Some(path)) => match asked {
-            Asked::One(part) => list(FileSource::open(&path, part)?),
+            Asked::One(part) => list(FileSource::open(&path, part)?, is_large),
             Asked::Set(_) => Err(wrong("--list knows no sets")),
         },
         (Some(path), None) => match target {
-            Some(target) => write(&path, &target, &asked),
-            None => print(asked.source(&path)?),
+            Some(target) => write(&path, &target, &asked, is_large),
+            None => print(asked.source(&path)?, is_large),
         },
     }
 }
@@ -94,7 +99,7 @@ fn for_each_chunk(source: &mut dyn Source, mut take: impl FnMut(&[u8]) -> Outcom
 }
 
 /// Writes the events of a script to a file.
-fn write(script: &Path, target: &Path, asked: &Asked) -> Outcome {
+fn write(script: &Path, target: &Path, asked: &Asked, is_large: bool) -> Outcome {
     files::must_differ(&[
         NamedFile {
             option: "SCRIPT",
@@ -106,13 +111,17 @@ fn write(script: &Path, target: &Path, asked: &Asked) -> Outcome {
         },
     ])?;
     let mut source = asked.source(script)?;
+    let name = target.display().to_string();
+    amount::test(&[Amount::exactly(name, source.total())], is_large)?;
     let mut file = Replacement::open(target)?;
     for_each_chunk(&mut source, |chunk| file.write(chunk))?;
     files::commit_all(vec![file])
 }
 
 /// Prints the events of a script as text.
-fn print(mut source: PlanSource) -> Outcome {
+fn print(mut source: PlanSource, is_large: bool) -> Outcome {
+    let bytes = source.total().saturating_mul(BYTES_AS_TEXT);
+    amount::test(&[Amount::exactly("standard output", bytes)], is_large)?;
     let mut output = Output::new();
     let mut column = 0;
     for_each_chunk(&mut source, |chunk| {
@@ -134,7 +143,9 @@ fn print(mut source: PlanSource) -> Outcome {
 }
 
 /// Prints the script that some events come from.
-fn list(mut source: FileSource) -> Outcome {
+fn list(mut source: FileSource, is_large: bool) -> Outcome {
+    let bytes = source.tally().words();
+    amount::test(&[Amount::about("standard output", bytes)], is_large)?;
     let mut output = Output::new();
     let mut listing = Listing::new();
     for_each_chunk(&mut source, |chunk| {

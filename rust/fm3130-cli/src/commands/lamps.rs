@@ -7,6 +7,7 @@ use std::path::{Path, PathBuf};
 use fm3130::Lamps;
 
 use super::run::title_of;
+use crate::amount::{self, Amount};
 use crate::arguments::{wrong, Arguments, Options};
 use crate::bus::{self, Grouping, Listener, Outputs};
 use crate::chip::{Chip, Part};
@@ -16,11 +17,11 @@ use crate::files::{self, NamedFile, Replacement};
 use crate::output::Output;
 use crate::panel::Panel;
 use crate::script;
-use crate::source::PlanSource;
+use crate::source::{PlanSource, Source};
 
 const OPTIONS: Options = Options {
     with_value: &["--svg"],
-    alone: &[],
+    alone: &[amount::OPTION],
 };
 
 /// Plays a script on a fresh device, with the record before any event.
@@ -33,6 +34,8 @@ pub fn command(words: Vec<OsString>) -> Outcome {
     let svg = arguments.path("--svg");
     test_files(&path, svg.as_deref())?;
     let source = PlanSource::new(script::load(&path, Part::Fm3130)?);
+    let words = Amount::about("standard output", source.tally().words());
+    amount::test(&[words], arguments.has(amount::OPTION))?;
     let mut drawing = svg.map(|path| Replacement::open(&path)).transpose()?;
     play(source, drawing.as_mut(), &title_of(&path))?;
     files::commit_all(drawing.into_iter().collect())

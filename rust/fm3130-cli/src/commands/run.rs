@@ -8,6 +8,7 @@ use fm3130::capture::{self, Capture};
 use fm3130::Phase;
 
 use super::run_set;
+use crate::amount::{self, Amount};
 use crate::arguments::{wrong, Arguments, Options};
 use crate::bus::{self, Grouping, Listener, Observer, Outputs, Recorded};
 use crate::chip::{Chip, Part};
@@ -32,7 +33,7 @@ const OPTIONS: Options = Options {
         "--events",
         "--part",
     ],
-    alone: &["--quiet", "--next-line"],
+    alone: &["--quiet", "--next-line", amount::OPTION],
 };
 
 /// Options that name files, with the script first.
@@ -58,6 +59,7 @@ pub fn command(words: Vec<OsString>) -> Outcome {
     test_files(&arguments, script.as_deref(), &[])?;
     test_capture(&arguments, part)?;
     let (mut source, title) = open_source(script, arguments.path("--events"), part)?;
+    test_amounts(&arguments, &*source)?;
     let is_quiet = arguments.has("--quiet");
     let mut output = Output::new();
     let mut device = load_device(&arguments, part, is_quiet, &mut output)?;
@@ -112,6 +114,22 @@ fn too_long(total: u64) -> Failure {
     Failure::Script(format!(
         "{total} events are too many for --capture, which holds {most}"
     ))
+}
+
+/// Refuses a run that would write more than it was asked for, before anything is done.
+pub(super) fn test_amounts(arguments: &Arguments, source: &dyn Source) -> Outcome {
+    let tally = source.tally();
+    let name = |option| {
+        arguments
+            .path(option)
+            .map(|path| path.display().to_string())
+    };
+    let answers = name("--answers").map(|name| Amount::exactly(name, tally.events()));
+    let waveform = name("--vcd").map(|name| Amount::about(name, tally.waveform()));
+    let words =
+        (!arguments.has("--quiet")).then(|| Amount::about("standard output", tally.words()));
+    let amounts: Vec<Amount> = [answers, waveform, words].into_iter().flatten().collect();
+    amount::test(&amounts, arguments.has(amount::OPTION))
 }
 
 /// Refuses a command line in which two words name one file. Plans are files that no word names.

@@ -6,7 +6,7 @@ use std::path::{Path, PathBuf};
 use fm3130::family::{Member, Select, Set, Size};
 use fm3130::IMAGE_BYTES;
 
-use super::run::{test_files, title_of, told};
+use super::run::{test_amounts, test_files, title_of, told};
 use crate::arguments::{wrong, Arguments};
 use crate::bus::{self, Grouping, Listener, Observer, Outputs};
 use crate::chip::State;
@@ -35,6 +35,7 @@ pub fn command(
     let mut output = Output::new();
     test_members(members)?;
     let (mut source, title) = open_source(arguments, script, members)?;
+    test_amounts(arguments, &*source)?;
     let mut set = load_set(arguments, members, is_quiet, &mut output)?;
     let mut targets = Targets::open(arguments, title)?;
     let printed = (!is_quiet).then_some(&mut output);

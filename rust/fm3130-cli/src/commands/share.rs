@@ -6,15 +6,17 @@ use std::path::{Path, PathBuf};
 
 use fm3130::Device;
 
+use crate::amount::{self, Amount};
 use crate::arguments::{wrong, Arguments, Options};
 use crate::failure::Outcome;
 use crate::files::{self, NamedFile, Replacement};
 use crate::output::Output;
+use crate::script::{Plan, Turn};
 use crate::{script, sharing};
 
 const OPTIONS: Options = Options {
     with_value: &["--svg"],
-    alone: &["--quiet"],
+    alone: &["--quiet", amount::OPTION],
 };
 
 /// Plays a script of two masters on a fresh device.
@@ -29,6 +31,8 @@ pub fn command(words: Vec<OsString>) -> Outcome {
         must_differ(&path, svg)?;
     }
     let turns = script::load_turns(&path)?;
+    sharing::test_lengths(&turns)?;
+    test_amount(&arguments, &turns)?;
     let mut picture = svg.map(|path| Replacement::open(&path)).transpose()?;
     let mut output = Output::new();
     let listens = (!arguments.has("--quiet")).then_some(&mut output);
@@ -41,6 +45,18 @@ pub fn command(words: Vec<OsString>) -> Outcome {
         file.write(sharing::picture_of(&title, &played).as_bytes())?;
     }
     files::commit_all(picture.into_iter().collect())
+}
+
+/// Refuses turns of which more would be printed than was asked for, before the first is played.
+fn test_amount(arguments: &Arguments, turns: &[Turn]) -> Outcome {
+    if arguments.has("--quiet") {
+        return Ok(());
+    }
+    let words = turns
+        .iter()
+        .map(|turn| Plan::of(&turn.items).tally().words());
+    let amount = Amount::about("standard output", words.fold(0, u64::saturating_add));
+    amount::test(&[amount], arguments.has(amount::OPTION))
 }
 
 /// Refuses a command line in which script and picture are one file.

@@ -130,6 +130,8 @@ impl<'run> Drawing<'run> {
     /// A box between bytes, or a mark inside one.
     fn aside(&mut self, aside: &Aside, inside: Option<usize>, after: Beside) {
         match inside {
+            // More marks in one byte than there may be cells: the drawing is full.
+            Some(_) if self.marks.len() >= MOST_CELLS => self.cells = MOST_CELLS + 1,
             Some(clocks) => self.marks.push(Mark {
                 clocks,
                 name: aside.name.clone(),

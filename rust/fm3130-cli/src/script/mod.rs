@@ -15,14 +15,13 @@ pub use plan::Plan;
 #[cfg(test)]
 pub use plan::Step;
 
-use std::fs;
-use std::io::{self, Read};
 use std::path::Path;
 
 use fm3130::family::Select;
 
 use crate::chip::Part;
 use crate::failure::{Failure, Outcome};
+use crate::files;
 
 /// A script's plan for a part; `-` reads standard input.
 pub fn load(path: &Path, part: Part) -> Outcome<Plan> {
@@ -44,25 +43,22 @@ pub fn load_turns(path: &Path) -> Outcome<Vec<Turn>> {
     parse::parse_turns(&text).map_err(|problem| Failure::Script(problem.shown_in(&name, &text)))
 }
 
+/// The longest script that is read. What it says is in memory too, up to a hundred times as much.
+const MOST_BYTES: usize = 4 << 20;
+
 /// A script's name and text.
 fn read(path: &Path) -> Outcome<(String, String)> {
-    let (name, bytes) = if path == Path::new("-") {
-        ("standard input".to_string(), read_standard_input())
-    } else {
-        (path.display().to_string(), fs::read(path))
-    };
-    let bytes = bytes.map_err(|error| Failure::Files(format!("{name}: {error}")))?;
+    let name = files::name_of(path);
+    let bytes = files::read_or_input(path, MOST_BYTES)?;
+    if bytes.len() > MOST_BYTES {
+        let words = format!("{name}: the script is longer than 4 MiB");
+        return Err(Failure::Script(words));
+    }
     let text = String::from_utf8(bytes).map_err(|error| {
         let place = error.utf8_error().valid_up_to();
         Failure::Script(format!("{name}: not UTF-8 text at byte {place}"))
     })?;
     Ok((name, text))
-}
-
-fn read_standard_input() -> io::Result<Vec<u8>> {
-    let mut bytes = Vec::new();
-    io::stdin().lock().read_to_end(&mut bytes)?;
-    Ok(bytes)
 }
 
 /// The plan of a text.

@@ -4,6 +4,7 @@
 use fm3130::{event, family};
 
 use super::item::{Action, Item, Ninth};
+use crate::amount::Tally;
 
 /// Some events, done so many times.
 #[derive(Clone, Debug, PartialEq, Eq)]
@@ -45,6 +46,17 @@ impl Plan {
         self.steps.iter().fold(0, |sum: u64, step| {
             sum.saturating_add(step.times.saturating_mul(step.events.len() as u64))
         })
+    }
+
+    /// How many events of each kind there are.
+    pub fn tally(&self) -> Tally {
+        let mut tally = Tally::default();
+        for step in &self.steps {
+            for event in &step.events {
+                tally.add(*event, step.times);
+            }
+        }
+        tally
     }
 
     fn add(&mut self, events: Vec<u8>, times: u64) {
@@ -151,5 +163,6 @@ mod tests {
         let plan = Plan::of(&parse("t*4294967295 t*4294967295", Part::Fm3130).unwrap());
         assert_eq!(plan.steps.len(), 2);
         assert_eq!(plan.total(), 8_589_934_590);
+        assert_eq!(plan.tally().events(), 8_589_934_590);
     }
 }

@@ -46,7 +46,18 @@ pub fn letter(master: Master) -> &'static str {
     }
 }
 
-/// Plays all turns on a device; says what happened where somebody listens.
+/// Refuses a turn that is too long for one call, before the first is played.
+pub fn test_lengths(turns: &[Turn]) -> Outcome {
+    let mut totals = turns.iter().map(|turn| Plan::of(&turn.items).total());
+    match totals.find(|total| *total > MOST_EVENTS) {
+        None => Ok(()),
+        Some(total) => Err(Failure::Script(format!(
+            "a turn has {total} events; it may have {MOST_EVENTS}"
+        ))),
+    }
+}
+
+/// Plays all turns, whose lengths are tested, on a device; says what happened where somebody listens.
 pub fn play(
     device: Device,
     turns: &[Turn],
@@ -61,7 +72,7 @@ pub fn play(
         };
         let plan = Plan::of(&turn.items);
         let before = handle.device();
-        let played = play_turn(handle, turn, &plan)?;
+        let played = play_turn(handle, turn, &plan);
         if let Some(output) = output.as_deref_mut() {
             say(&played, before, plan, output)?;
         }
@@ -78,34 +89,27 @@ pub fn play(
 }
 
 /// Asks for the bus, where the turn has Starts, Stops or Clocks, and calls.
-fn play_turn(handle: &Handle, turn: &Turn, plan: &Plan) -> Outcome<Played> {
-    let events = events_of(plan)?;
+fn play_turn(handle: &Handle, turn: &Turn, plan: &Plan) -> Played {
+    let events = events_of(plan);
     let needs_bus = events.iter().any(|event| *event <= event::CLOCK_HIGH);
     let asked = if needs_bus { handle.ask() } else { Ok(()) };
     let during = handle.holder();
     let answered = asked.and_then(|()| handle.call(&events).map(|_| ()));
-    Ok(Played {
+    Played {
         master: turn.master,
         words: turn.words.clone(),
         answered,
         during,
         after: handle.holder(),
-    })
+    }
 }
 
 /// The events of a turn, as one list.
-fn events_of(plan: &Plan) -> Outcome<Vec<u8>> {
-    if plan.total() > MOST_EVENTS {
-        let words = format!(
-            "a turn has {} events; it may have {MOST_EVENTS}",
-            plan.total()
-        );
-        return Err(Failure::Script(words));
-    }
+fn events_of(plan: &Plan) -> Vec<u8> {
     let steps = plan.steps.iter();
-    Ok(steps
+    steps
         .flat_map(|step| step.events.repeat(step.times as usize))
-        .collect())
+        .collect()
 }
 
 /// A turn in words: who plays, what happened on the wires or why nothing did, and who holds the bus.

@@ -5,6 +5,7 @@ use fm3130::masters::Master;
 
 use super::{letter, Played};
 use crate::drawing::page::{fitted, text, FAINT, INK, SENT_BY_DEVICE, SENT_BY_MASTER, UNHEARD};
+use crate::output::say_aside;
 
 /// The width of a turn, and of the names before the first.
 const TURN: f64 = 150.0;
@@ -17,6 +18,9 @@ const BOX: f64 = 34.0;
 
 /// Turns that stand side by side; then a new row begins.
 const A_ROW: usize = 7;
+
+/// A picture with more turns would be none any more: it stops and says so.
+const MOST_TURNS: usize = 4000;
 
 /// The three lanes of a row, from the top.
 const LANES: [&str; 3] = ["a: rig", "bus held by", "b: handheld"];
@@ -32,20 +36,13 @@ fn color_of(master: Master) -> &'static str {
 
 /// The whole picture.
 pub fn picture_of(title: &str, all: &[Played]) -> String {
-    let rows = all.chunks(A_ROW).len().max(1);
-    let width = LEFT + TURN * A_ROW as f64 + 20.0;
-    let height = HEAD + ROW * rows as f64 + 10.0;
-    let mut picture = format!(
-        "<?xml version=\"1.0\" encoding=\"UTF-8\"?>\n\
-         <svg xmlns=\"http://www.w3.org/2000/svg\" width=\"{width}\" height=\"{height}\" \
-         viewBox=\"0 0 {width} {height}\" font-family=\"DejaVu Sans, Verdana, sans-serif\">\n\
-         <rect width=\"100%\" height=\"100%\" fill=\"#ffffff\"/>\n"
-    );
-    picture.push_str(&text(20.0, 26.0, 15.0, "start", INK, title));
-    let words =
-        "A box is a turn. Dashed: refused by number 7. Between the masters: who holds the bus, \
-                 during the turn and after it.";
-    picture.push_str(&text(20.0, 46.0, 10.0, "start", FAINT, words));
+    let (all, more) = all.split_at(all.len().min(MOST_TURNS));
+    let mut picture = head_of(title, all.chunks(A_ROW).len().max(1));
+    if !more.is_empty() {
+        let words = format!("the picture stops after {MOST_TURNS} turns");
+        say_aside(&words);
+        picture.push_str(&text(LEFT, 58.0, 10.0, "start", REFUSED, &words));
+    }
     for (index, row) in all.chunks(A_ROW).enumerate() {
         let top = HEAD + ROW * index as f64;
         picture.push_str(&format!(
@@ -55,6 +52,24 @@ pub fn picture_of(title: &str, all: &[Played]) -> String {
     }
     picture.push_str("</svg>\n");
     picture
+}
+
+/// All of a picture of so many rows that is above the first.
+fn head_of(title: &str, rows: usize) -> String {
+    let width = LEFT + TURN * A_ROW as f64 + 20.0;
+    let height = HEAD + ROW * rows as f64 + 10.0;
+    let mut head = format!(
+        "<?xml version=\"1.0\" encoding=\"UTF-8\"?>\n\
+         <svg xmlns=\"http://www.w3.org/2000/svg\" width=\"{width}\" height=\"{height}\" \
+         viewBox=\"0 0 {width} {height}\" font-family=\"DejaVu Sans, Verdana, sans-serif\">\n\
+         <rect width=\"100%\" height=\"100%\" fill=\"#ffffff\"/>\n"
+    );
+    head.push_str(&text(20.0, 26.0, 15.0, "start", INK, title));
+    let words =
+        "A box is a turn. Dashed: refused by number 7. Between the masters: who holds the bus, \
+                 during the turn and after it.";
+    head.push_str(&text(20.0, 46.0, 10.0, "start", FAINT, words));
+    head
 }
 
 /// The turns of a row.
