@@ -115,6 +115,16 @@ fn two_options_that_name_one_file() {
     let lamps = ["lamps", "good.bus", "--svg", "./good.bus"];
     fails(&folder, &lamps, 2, one);
     fails(&folder, &["events", "good.bus", "-o", "good.bus"], 2, one);
+    // A picture that is not drawn removes an old one; nothing that is read may be in its place.
+    let judge = ["judge", "--from-vcd", "good.vcd"];
+    for files in [
+        &["--svg", "good.vcd"][..],
+        &["--image", "image", "--svg", "image"],
+        &["--memory", "memory", "--svg", "./memory"],
+        &["--image", "image", "--memory", "image"],
+    ] {
+        fails(&folder, &[&judge[..], files].concat(), 2, one);
+    }
     fails(&folder, &["fresh", "--image", "a", "--memory", "a"], 2, one);
 }
 

@@ -43,8 +43,8 @@ pub fn command(words: Vec<OsString>) -> Outcome {
     let arguments = Arguments::sort(words, &OPTIONS)?;
     arguments.at_most(1)?;
     let recorded = Recorded::named(&arguments)?;
+    test_files(&arguments, recorded.path())?;
     let mut picture = Picture::asked(arguments.path("--svg"));
-    picture.must_not_replace(recorded.path())?;
     let told = match &recorded {
         Recorded::Capture(path) => {
             let file = files::read_or_input(path, capture::MOST_BYTES)?;
@@ -99,6 +99,19 @@ fn test_options(arguments: &Arguments) -> Outcome {
     }
 }
 
+/// Refuses a command line in which two words name one file: a picture must not take the place of what is read.
+fn test_files(arguments: &Arguments, file: &Path) -> Outcome {
+    let mut paths = vec![("FILE", file.to_path_buf())];
+    paths.retain(|(_, path)| !files::is_input(path));
+    let options = ["--image", "--memory", "--svg"].into_iter();
+    paths.extend(options.filter_map(|option| Some((option, arguments.path(option)?))));
+    let named: Vec<NamedFile> = paths
+        .iter()
+        .map(|(option, path)| NamedFile { option, path })
+        .collect();
+    files::must_differ(&named)
+}
+
 /// The names of the clock's wire and of the data's.
 fn wire_names(arguments: &Arguments) -> [String; 2] {
     [("--scl", "SCL"), ("--sda", "SDA")].map(|(option, otherwise)| {
@@ -120,17 +133,6 @@ impl Picture {
         Picture {
             path,
             is_drawn: false,
-        }
-    }
-
-    /// Refuses a picture in the place of what is judged.
-    fn must_not_replace(&self, file: &Path) -> Outcome {
-        let named = |option, path| NamedFile { option, path };
-        match &self.path {
-            Some(path) if !files::is_input(file) => {
-                files::must_differ(&[named("FILE", file), named("--svg", path)])
-            }
-            _ => Ok(()),
         }
     }
 
