@@ -8,12 +8,14 @@ use mathlib.Core.Bool.{false}
 use mathlib.Core.List.{List}
 use Rattle.wire.specs.Machine.{Line, mastersLine}
 use Rattle.set31.specs.Set.{Together, Place, at, doneIn, afterEvents}
-use Rattle.ensemble.specs.Transaction.{lineByte, samePlace, Here, Between, Unlike}
+use Rattle.ensemble.specs.Transaction.{lineByte, samePlace, Here, Unlike}
+use Rattle.ensemble.specs.Stand.{Stands}
 
--- From a set between transfers: if one of two devices pulls the line low, the other does not.
+-- From every set that a list run takes, inside a transfer or not: if one of two devices pulls the line low, the other
+-- does not. So what a device hears of the master is what is on the line, as far as it listens.
 abbrev pub OnePulls : Type 0
 OnePulls =
-    (t : Together) (es : List ℕ) (v w : Place) (x : Line) → Between t → Unlike t → Here t v → Here t w
+    (t : Together) (es : List ℕ) (v w : Place) (x : Line) → Stands t → Unlike t → Here t v → Here t w
     → samePlace v w ≡ false
     → (doneIn (at v (afterEvents t es)) (lineByte x) .line ≡ mastersLine x → ⊥)
     → doneIn (at w (afterEvents t es)) (lineByte x) .line ≡ mastersLine x

@@ -9,21 +9,21 @@ use Rattle.set31.specs.Set.{Together}
 use Rattle.set31.specs.Make.{isLent, isWithin, isBetween, placesAre, selectsDiffer, countFits, makeNumber}
 
 module _ (t : Together) where
-  pub make-wrong-memory : placesAre isLent t ≡ false → makeNumber t ≡ wrongMemory
+  pub make-wrong-count : countFits t ≡ false → makeNumber t ≡ wrongCount
   unfolding makeNumber
-  make-wrong-memory a = rw a
+  make-wrong-count a = rw a
 
-  module _ (a : placesAre isLent t ≡ true) where
-    pub make-wrong-state : placesAre isWithin t ≡ false → makeNumber t ≡ wrongState
+  module _ (a : countFits t ≡ true) where
+    pub make-wrong-memory : placesAre isLent t ≡ false → makeNumber t ≡ wrongMemory
     unfolding makeNumber
-    make-wrong-state b = rw (a, b)
+    make-wrong-memory b = rw (a, b)
 
-    module _ (b : placesAre isWithin t ≡ true) where
-      pub make-wrong-count : countFits t ≡ false → makeNumber t ≡ wrongCount
+    module _ (b : placesAre isLent t ≡ true) where
+      pub make-wrong-state : placesAre isWithin t ≡ false → makeNumber t ≡ wrongState
       unfolding makeNumber
-      make-wrong-count c = rw (a, b, c)
+      make-wrong-state c = rw (a, b, c)
 
-      module _ (c : countFits t ≡ true) where
+      module _ (c : placesAre isWithin t ≡ true) where
         pub make-equal-selects : selectsDiffer t ≡ false → makeNumber t ≡ equalSelects
         unfolding makeNumber
         make-equal-selects d = rw (a, b, c, d)

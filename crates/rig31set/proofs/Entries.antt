@@ -10,9 +10,10 @@ use lib.Dec.{leb}
 use lib.ListN.{length}
 use borrow.Author.Tests.{le-leb, lt-leb, leb-true, ne-eqb}
 use Rattle.numbers.specs.Numbers.{accepted, wrongMemory, wrongState, unknownEvent, shortAnswers}
-use Rattle.numbers.specs.Numbers.{wrongCount, equalSelects}
+use Rattle.numbers.specs.Numbers.{wrongCount, equalSelects, inTransfer}
 use Rattle.set31.specs.Set.{Together}
 use Rattle.set31.specs.Make.{isLent, isWithin, placesAre, selectsDiffer, countFits, makeNumber}
+use Rattle.set31.specs.Stand.{standTogether}
 use Rattle.set31.specs.Outcome.{lentTo, SetFit}
 use Rattle.image31.specs.Image.{imageSize}
 use Rattle.image31set.specs.Read.{readingOf}
@@ -27,59 +28,71 @@ module _ (plan images a b c d : List ℕ) (r : Reading) (e : r ≡ readingOf pla
   abbrev lentOf : Together
   lentOf = lentTo (r .set) a b c d
 
-  pub check-wrong-memory : placesAre isLent lentOf ≡ false → checkOf plan images a b c d ≡ wrongMemory
+  pub check-wrong-count : countFits lentOf ≡ false → checkOf plan images a b c d ≡ wrongCount
   unfolding checkOf
-  check-wrong-memory p = rw (← e, p)
+  check-wrong-count n = rw (← e, n)
 
-  module _ (p : placesAre isLent lentOf ≡ true) where
-    pub check-wrong-state : r .good ≡ false → checkOf plan images a b c d ≡ wrongState
+  module _ (n : countFits lentOf ≡ true) where
+    pub check-wrong-memory : placesAre isLent lentOf ≡ false → checkOf plan images a b c d ≡ wrongMemory
     unfolding checkOf
-    check-wrong-state g = rw (← e, p, g)
+    check-wrong-memory p = rw (← e, n, p)
 
-    pub check-made : r .good ≡ true → checkOf plan images a b c d ≡ makeNumber lentOf
-    unfolding checkOf
-    check-made g = rw (← e, p, g)
+    module _ (p : placesAre isLent lentOf ≡ true) where
+      pub check-wrong-state : r .good ≡ false → checkOf plan images a b c d ≡ wrongState
+      unfolding checkOf
+      check-wrong-state g = rw (← e, n, p, g)
+
+      pub check-made : r .good ≡ true → checkOf plan images a b c d ≡ makeNumber lentOf
+      unfolding checkOf
+      check-made g = rw (← e, n, p, g)
 
 -- the tests of a list run
 module _ (good : Bool) (t : Together) (es : List ℕ) (room : ℕ) where
-  pub run-wrong-memory : placesAre isLent t ≡ false → runNumber good t es room ≡ wrongMemory
+  pub run-wrong-count : countFits t ≡ false → runNumber good t es room ≡ wrongCount
   unfolding runNumber
-  run-wrong-memory p = rw p
+  run-wrong-count n = rw n
 
-  module _ (p : placesAre isLent t ≡ true) where
-    pub run-wrong-state : good ≡ false → runNumber good t es room ≡ wrongState
+  module _ (n : countFits t ≡ true) where
+    pub run-wrong-memory : placesAre isLent t ≡ false → runNumber good t es room ≡ wrongMemory
     unfolding runNumber
-    run-wrong-state g = rw (p, g)
+    run-wrong-memory p = rw (n, p)
 
-    module _ (g : good ≡ true) where
-      pub run-unknown-event : allKnown (t .set .count) es ≡ false → runNumber good t es room ≡ unknownEvent
+    module _ (p : placesAre isLent t ≡ true) where
+      pub run-wrong-state : good ≡ false → runNumber good t es room ≡ wrongState
       unfolding runNumber
-      run-unknown-event k = rw (p, g, k)
+      run-wrong-state g = rw (n, p, g)
 
-      module _ (k : allKnown (t .set .count) es ≡ true) where
-        pub run-short-answers : room < length es → runNumber good t es room ≡ shortAnswers
+      module _ (g : good ≡ true) where
+        pub run-unknown-event : allKnown (t .set .count) es ≡ false → runNumber good t es room ≡ unknownEvent
         unfolding runNumber
-        run-short-answers h = rw (p, g, k, lt-leb (length es) room h)
+        run-unknown-event k = rw (n, p, g, k)
 
-        module _ (h : length es ≤ room) where
-          pub run-wrong-count : countFits t ≡ false → runNumber good t es room ≡ wrongCount
+        module _ (k : allKnown (t .set .count) es ≡ true) where
+          pub run-short-answers : room < length es → runNumber good t es room ≡ shortAnswers
           unfolding runNumber
-          run-wrong-count n = rw (p, g, k, le-leb (length es) room h, n)
+          run-short-answers h = rw (n, p, g, k, lt-leb (length es) room h)
 
-          module _ (n : countFits t ≡ true) where
+          module _ (h : length es ≤ room) where
             pub run-equal-selects : selectsDiffer t ≡ false → runNumber good t es room ≡ equalSelects
             unfolding runNumber
-            run-equal-selects s = rw (p, g, k, le-leb (length es) room h, n, s)
+            run-equal-selects s = rw (n, p, g, k, le-leb (length es) room h, s)
 
-            pub run-accepted : selectsDiffer t ≡ true → runNumber good t es room ≡ accepted
-            unfolding runNumber
-            run-accepted s = rw (p, g, k, le-leb (length es) room h, n, s)
+            module _ (s : selectsDiffer t ≡ true) where
+              pub run-in-transfer : standTogether t ≡ false → runNumber good t es room ≡ inTransfer
+              unfolding runNumber
+              run-in-transfer u = rw (n, p, g, k, le-leb (length es) room h, s, u)
+
+              pub run-accepted : standTogether t ≡ true → runNumber good t es room ≡ accepted
+              unfolding runNumber
+              run-accepted u = rw (n, p, g, k, le-leb (length es) room h, s, u)
 
   -- what number 0 says
   pub record Passed : Type 0 where
     pub lent : placesAre isLent t ≡ true
     pub well : good ≡ true
     pub enough : length es ≤ room
+    pub unlike : selectsDiffer t ≡ true
+    pub stand : standTogether t ≡ true
 
   zero-of : (x : Bool) (y k : ℕ) → (k ≡ 0 → ⊥) → cond x y k ≡ 0 → (x ≡ true) × (y ≡ 0)
   zero-of true y k n e = (refl, e)
@@ -88,11 +101,20 @@ module _ (good : Bool) (t : Together) (es : List ℕ) (room : ℕ) where
   pub passed : runNumber good t es room ≡ accepted → Passed
   unfolding runNumber
   passed e =
-      let a = zero-of (placesAre isLent t) _ wrongMemory (λ k. omega (arith, k)) e in
+      let n = zero-of (countFits t) _ wrongCount (λ k. omega (arith, k)) e in
+      let a = zero-of (placesAre isLent t) _ wrongMemory (λ k. omega (arith, k)) (n .1) in
       let b = zero-of good _ wrongState (λ k. omega (arith, k)) (a .1) in
       let c = zero-of (allKnown (t .set .count) es) _ unknownEvent (λ k. omega (arith, k)) (b .1) in
       let d = zero-of (leb (length es) room) _ shortAnswers (λ k. omega (arith, k)) (c .1) in
-      record { lent = a .0; well = b .0; enough = leb-true (length es) room (d .0) }
+      let s = zero-of (selectsDiffer t) _ equalSelects (λ k. omega (arith, k)) (d .1) in
+      let u = zero-of (standTogether t) _ inTransfer (λ k. omega (arith, k)) (s .1) in
+      record {
+        lent = a .0;
+        well = b .0;
+        enough = leb-true (length es) room (d .0);
+        unlike = s .0;
+        stand = u .0;
+      }
 
 -- the two ends of a list run
 module _ (plan images a b c d es room : List ℕ) (r : Reading) (e : r ≡ readingOf plan images) where

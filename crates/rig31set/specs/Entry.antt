@@ -12,39 +12,44 @@ use mathlib.Core.List.{List}
 use lib.Dec.{eqb, leb}
 use lib.ListN.{length}
 use Rattle.numbers.specs.Numbers.{accepted, wrongMemory, wrongState, unknownEvent, shortAnswers}
-use Rattle.numbers.specs.Numbers.{wrongCount, equalSelects}
+use Rattle.numbers.specs.Numbers.{wrongCount, equalSelects, inTransfer}
 use Rattle.set31.specs.Set.{Together}
 use Rattle.set31.specs.Make.{isLent, placesAre, selectsDiffer, countFits, makeNumber}
+use Rattle.set31.specs.Stand.{standTogether}
 use Rattle.set31.specs.Outcome.{lentTo}
 use Rattle.image31set.specs.Read.{readingOf}
 use Rattle.run31set.specs.Run.{Ended, answersOver, runOf, allKnown}
 use Rattle.image31set.specs.Write.{imagesOf}
 
--- "Refused when the set is made": 1 a memory of the wrong length for its device's size; 2 a byte of the plan above
--- 7, not 64 bytes of image a device, or an image that no well-formed state of that size and those select bits writes;
--- then the set's own numbers.
+-- "Refused when the set is made": 9 a plan that has not one to four bytes; 1 a memory of the wrong length for its
+-- device's size; 2 a byte of the plan above 7, not 64 bytes of image a device, or an image that no well-formed state of
+-- that size and those select bits writes; then the set's own numbers. The count goes first: without one to four devices
+-- no memory and no image has a meaning.
 unfoldable pub checkOf : List ℕ → List ℕ → List ℕ → List ℕ → List ℕ → List ℕ → ℕ
 checkOf plan images a b c d =
     let r = readingOf plan images in
     let t = lentTo (r .set) a b c d in
-    cond (placesAre isLent t) (cond (r .good) (makeNumber t) wrongState) wrongMemory
+    cond (countFits t) (cond (placesAre isLent t) (cond (r .good) (makeNumber t) wrongState) wrongMemory) wrongCount
 
 -- The contract of `fm31_set_check`.
 abbrev pub CheckSettled : List ℕ → List ℕ → List ℕ → List ℕ → List ℕ → List ℕ → ℕ → Type 0
 CheckSettled plan images a b c d n = n ≡ checkOf plan images a b c d
 
--- "Checked in the order of the numbers." A set may be in a transfer between two runs: number 11 is not asked.
+-- The count, then "in the order of the numbers". A set may be in a transfer between two runs: 11 is given where the
+-- devices do not stand as in any made set.
 unfoldable pub runNumber : Bool → Together → List ℕ → ℕ → ℕ
 runNumber good t es room =
-    cond (placesAre isLent t)
+    cond (countFits t)
+    (cond (placesAre isLent t)
     (cond good
     (cond (allKnown (t .set .count) es)
     (cond (leb (length es) room)
-    (cond (countFits t) (cond (selectsDiffer t) accepted equalSelects) wrongCount)
+    (cond (selectsDiffer t) (cond (standTogether t) accepted inTransfer) equalSelects)
     shortAnswers)
     unknownEvent)
     wrongState)
-    wrongMemory
+    wrongMemory)
+    wrongCount
 
 -- All that a caller of the list run can see of it.
 pub record Outcome : Type 0 where

@@ -1,5 +1,5 @@
 // SPDX-License-Identifier: Apache-2.0
-// The entries for C. Each tests in the order of the numbers, before anything is written.
+// The entries for C. Each tests the count of devices first, then in the order of the numbers, before anything is written.
 ghost use mathlib.Core.Path.{_≡_};
 ghost use Rattle.set31.specs.Outcome.{lentTo};
 ghost use Rattle.rig31set.specs.Entry.{CheckSettled, runNumber, RunSettled};
@@ -7,10 +7,13 @@ use image31set::Reading;
 use image31set::read::read_set;
 use image31set::write::write_images;
 use make31set::are_lent;
+use make31set::is_count;
 use make31set::number;
 use make31set::selects_differ;
+use make31set::stand_together;
 use numbers::ACCEPTED;
 use numbers::EQUAL_SELECTS;
+use numbers::IN_TRANSFER;
 use numbers::SHORT_ANSWERS;
 use numbers::UNKNOWN_EVENT;
 use numbers::WRONG_COUNT;
@@ -18,7 +21,6 @@ use numbers::WRONG_MEMORY;
 use numbers::WRONG_STATE;
 use run31set::run::all_known;
 use run31set::run::run_events;
-use set31::MOST;
 
 // The number by which a set is refused when it is made, 0 if it is not. Nothing is written.
 #[no_mangle]
@@ -35,6 +37,9 @@ pub extern "C" fn fm31_set_check(
 {
     let read = read_set(plan, images);
     let set = read.set;
+    if !is_count(set.count) {
+        return WRONG_COUNT as u64;
+    }
     if !are_lent(set, one, two, three, four) {
         return WRONG_MEMORY as u64;
     }
@@ -59,6 +64,9 @@ fn run_number(
         (now (events .entry)) room ⌝ }
 {
     let set = read.set;
+    if !is_count(set.count) {
+        return WRONG_COUNT;
+    }
     if !are_lent(set, one, two, three, four) {
         return WRONG_MEMORY;
     }
@@ -71,11 +79,11 @@ fn run_number(
     if room < events.len() {
         return SHORT_ANSWERS;
     }
-    if !((1 <= set.count) & (set.count <= MOST)) {
-        return WRONG_COUNT;
-    }
     if !selects_differ(set) {
         return EQUAL_SELECTS;
+    }
+    if !stand_together(set) {
+        return IN_TRANSFER;
     }
     ACCEPTED
 }

@@ -1,15 +1,15 @@
 -- SPDX-License-Identifier: Apache-2.0
 -- Which sets are refused when they are made (02, number 12: "Equal selects, or a device not between transfers, are
 -- refused when the set is made"), by the first number that fits:
+--   9   a count that is not 1 to 4: without one to four devices no memory and no image has a meaning
 --   1   a memory of the wrong length for its device's size
 --   2   a device outside its limits, its select bits above 3 too
---   9   a count that is not 1 to 4
 --   10  equal selects
 --   11  a device not between transfers
 -- Only the devices on the line are tested.
 --   isLent, isWithin, isBetween   what is tested of one device
---   placesAre                     a test of each device on the line
---   selectsDiffer, countFits      what is tested of them together
+--   placesAre, pairsAre           a test of each device on the line, of each two of them
+--   isCount, countFits, selectsDiffer    what is tested of them together
 --   makeNumber                    the number
 -- Assumes nothing.
 use Prim.Native.Nat.{ℕ}
@@ -47,28 +47,39 @@ unfoldable pub placesAre : (Held → Bool) → Together → Bool
 placesAre test t = allHere (t .set .count) (test (at first t)) (test (at second t)) (test (at third t)) (test (at
     fourth t))
 
+-- Auxiliary: a test of each two devices on the line: of first and second, and so on.
+unfoldable pub allPairs : ℕ → Bool → Bool → Bool → Bool → Bool → Bool → Bool
+allPairs n ab ac bc ad bd cd = ifHere n 1 ab && (ifHere n 2 (ac && bc) && ifHere n 3 (ad && (bd && cd)))
+
+unfoldable pub pairsAre : (Held → Held → Bool) → Together → Bool
+pairsAre test t =
+    let a = at first t in
+    let b = at second t in
+    let c = at third t in
+    let d = at fourth t in
+    allPairs (t .set .count) (test a b) (test a c) (test b c) (test a d) (test b d) (test c d)
+
 -- "Equal selects": of each two devices on the line.
 abbrev pub differ : Held → Held → Bool
 differ a b = not (eqb (selectIn a) (selectIn b))
 
-unfoldable pub selectsDiffer : Together → Bool
-selectsDiffer t =
-    let n = t .set .count in
-    ifHere n 1 (differ (at first t) (at second t))
-    && (ifHere n 2 (differ (at first t) (at third t) && differ (at second t) (at third t))
-    && ifHere n 3 (differ (at first t) (at fourth t) && (differ (at second t) (at fourth t) && differ (at third t)
-    (at fourth t))))
+abbrev pub selectsDiffer : Together → Bool
+selectsDiffer t = pairsAre differ t
+
+-- "Up to four devices": one to four.
+abbrev pub isCount : ℕ → Bool
+isCount n = leb 1 n && leb n most
 
 abbrev pub countFits : Together → Bool
-countFits t = leb 1 (t .set .count) && leb (t .set .count) most
+countFits t = isCount (t .set .count)
 
--- "Checked in the order of the numbers."
+-- "Checked in the order of the numbers", but that the count comes first.
 unfoldable pub makeNumber : Together → ℕ
 makeNumber t =
-    cond (placesAre isLent t)
+    cond (countFits t)
+    (cond (placesAre isLent t)
     (cond (placesAre isWithin t)
-    (cond (countFits t)
     (cond (selectsDiffer t) (cond (placesAre isBetween t) accepted inTransfer) equalSelects)
-    wrongCount)
     wrongState)
-    wrongMemory
+    wrongMemory)
+    wrongCount
