@@ -129,7 +129,8 @@ enum fm31_register {
 
 /*
  * Numbers. 0 is done; every other is a refusal, under which no buffer is written. They are tested
- * in this order, each function those that are named there, and the first that applies is given.
+ * in this order, each function those that are named there, and the first that applies is given; of
+ * a set 9 is tested before all others.
  */
 enum fm31_number {
     FM31_OK = 0,               /* none below */
@@ -143,7 +144,8 @@ enum fm31_number {
                                   bytes */
     FM31_WRONG_COUNT = 9,      /* set: not one to four devices; 7 and 8 are the FM3130's */
     FM31_EQUAL_SELECTS = 10,   /* set: two devices have the same select bits */
-    FM31_IN_TRANSFER = 11      /* set: a device is not between transfers */
+    FM31_IN_TRANSFER = 11      /* set: a device is not between transfers; in a list run: two devices
+                                  stand as no two of a made set can */
 };
 
 /* What one event tells: its answer byte. */
@@ -365,17 +367,18 @@ static inline const uint8_t *fm31256_view(const uint8_t *image, const uint8_t *m
  *   one .. four   the memories of the first to the fourth device, 8,192 or 32,768 bytes as its byte
  *            of the plan says; read
  *
- * Returns; no buffer is written
- *   0      the set can be made
+ * Returns; no buffer is written. Tested in this order:
+ *   9      the plan has not one to four bytes
  *   1      a memory has the wrong length for the size of its device
  *   2      a byte of the plan is above 7, images_length is not 64 a device, or no well-formed state
  *          of that size and those select bits writes an image
- *   9      the plan has not one to four bytes
  *   10     two devices have the same select bits
  *   11     a device is not between transfers
+ *   0      none of these: the set can be made
  *
- * Proved: CheckSettled, crates/rig31set/specs/Entry.antt. Allocates nothing, keeps nothing,
- * thread-safe on distinct buffers.
+ * Proved: CheckSettled, crates/rig31set/specs/Entry.antt; that 9 is given exactly then:
+ * CountExactly, crates/rig31set/specs/Count.antt. Allocates nothing, keeps nothing, thread-safe on
+ * distinct buffers.
  */
 uint64_t fm31_set_check(const uint8_t *plan, uint64_t plan_length, const uint8_t *images,
                         uint64_t images_length, const uint8_t *one, uint64_t one_length,
@@ -386,7 +389,9 @@ uint64_t fm31_set_check(const uint8_t *plan, uint64_t plan_length, const uint8_t
  * Does a list of events on a set. Each device does what it would do alone on the events that it
  * hears, except that a slave byte names it by its own select bits; a whole transaction that names
  * one device leaves the others, once ended, as they were. A list may be cut into pieces at any
- * place, each piece a call: the outcome is the same, so a set may be inside a transfer here.
+ * place, each piece a call: the outcome is the same, so a set may be inside a transfer here, as far
+ * as a set that was made comes to be: of each two devices one is in no transfer, or both are in the
+ * same slave byte, before its acknowledge. Of such a set no two devices pull the line low at once.
  *
  *   plan, images, one .. four   as above; images and the memories of the devices are written
  *   events   events_length bytes, each below 8 + 2 times the number of devices; read
@@ -395,16 +400,23 @@ uint64_t fm31_set_check(const uint8_t *plan, uint64_t plan_length, const uint8_t
  * Returns         images and memories            answers
  *   0             those that the events lead to  one byte for each event, the line; bytes past
  *                                                them are unchanged
- *   1 to 4, 9, 10 unchanged                      unchanged
+ *   any other     unchanged                      unchanged
  *
+ * Tested in this order:
+ *   9      as above
  *   1, 2   as above
  *   3      some event byte names no device of the set
  *   4      answers_length is less than events_length
- *   9, 10  as above, after 4
+ *   10     as above
+ *   11     two devices are both in a transfer, and not in the same slave byte before its
+ *          acknowledge: a set that fm31_set_check took and this function left is never refused so
  *
- * Proved: RunSettled, crates/rig31set/specs/Entry.antt; that each device does as alone:
- * AsAlone, crates/ensemble/specs/Alone.antt. Allocates nothing, keeps nothing, thread-safe on
- * distinct buffers.
+ * Proved: RunSettled, crates/rig31set/specs/Entry.antt; that 9 is given exactly then: CountExactly,
+ * crates/rig31set/specs/Count.antt; that each device does as alone: AsAlone,
+ * crates/ensemble/specs/Alone.antt; that 11 is never given to a set that was made: MadeRunsOn,
+ * crates/ensemble/specs/Stand.antt; that no two devices pull the line low at once: OnePulls,
+ * crates/ensemble/specs/Pulls.antt. Allocates nothing, keeps nothing, thread-safe on distinct
+ * buffers.
  */
 uint64_t fm31_set_run(const uint8_t *plan, uint64_t plan_length, uint8_t *images,
                       uint64_t images_length, uint8_t *one, uint64_t one_length, uint8_t *two,
