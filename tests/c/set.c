@@ -3,7 +3,7 @@
  * Sets through include/fm31.h: up to four devices of the larger family on one line. A byte written to
  * each device by its select bits comes back from it and from no other, the others are as they were,
  * an edge counts on its device alone, nobody answers to select bits that no device has, and every
- * refusal comes in its order with untouched buffers.
+ * refusal comes in its order with untouched buffers: the count before all others.
  */
 #include "fm31.h"
 
@@ -13,11 +13,17 @@
 
 enum { LIST_ROOM = 256, MEMORY = 0xA0, READ = 1, PLACE = 0x1234, COUNTERS = 4 };
 
+/* Places of an image's bytes, and the phase that is a slave byte. */
+enum { SUPPLIES = 25, PHASE = 26, CLOCKS = 27, BYTE = 28, SLAVE_BYTE = 1 };
+
+/* Two more than a set takes, for those that are refused. */
+enum { PLAN_ROOM = FM31_SET_MOST + 2 };
+
 /* A set of four, of both sizes, and the answers to a list. */
 struct set {
-    uint8_t plan[FM31_SET_MOST];
+    uint8_t plan[PLAN_ROOM];
     uint64_t devices;
-    uint8_t images[FM31_SET_MOST * FM31_IMAGE_BYTES];
+    uint8_t images[PLAN_ROOM * FM31_IMAGE_BYTES];
     uint8_t memories[FM31_SET_MOST][FM31256_MEMORY_BYTES];
     uint64_t lengths[FM31_SET_MOST];
     uint8_t answers[LIST_ROOM];
@@ -40,19 +46,22 @@ static void add_byte(unsigned byte, int ninth_is_high) {
     add(ninth_is_high ? FM31_CLOCK_HIGH : FM31_CLOCK_LOW);
 }
 
-/* Four fresh devices: select bits 3, 1, 0, 2, every other one of the larger size. */
+/* Fresh devices: select bits 3, 1, 0, 2, every other one of the larger size; past the fourth as the
+ * first. */
 static void make_set(uint64_t devices) {
-    static const uint8_t plan[FM31_SET_MOST] = {FM31_PLAN_64(3), FM31_PLAN_256(1), FM31_PLAN_64(0),
-                                                FM31_PLAN_256(2)};
+    static const uint8_t plan[PLAN_ROOM] = {FM31_PLAN_64(3),  FM31_PLAN_256(1), FM31_PLAN_64(0),
+                                            FM31_PLAN_256(2), FM31_PLAN_64(3),  FM31_PLAN_64(3)};
     memset(&set, 0, sizeof set);
     memcpy(set.plan, plan, sizeof plan);
     set.devices = devices;
     set.room = LIST_ROOM;
+    for (int place = 0; place < PLAN_ROOM; place++) {
+        check_equal("fm31_fresh",
+                    fm31_fresh(set.images + place * FM31_IMAGE_BYTES, FM31_IMAGE_BYTES), FM31_OK);
+    }
     for (int place = 0; place < FM31_SET_MOST; place++) {
         int is_on = (uint64_t)place < devices;
         uint64_t size = plan[place] & 4 ? FM31256_MEMORY_BYTES : FM3164_MEMORY_BYTES;
-        check_equal("fm31_fresh",
-                    fm31_fresh(set.images + place * FM31_IMAGE_BYTES, FM31_IMAGE_BYTES), FM31_OK);
         set.lengths[place] = is_on ? size : 0;
     }
     count = 0;
@@ -162,25 +171,97 @@ static void check_fault(const char *what, uint64_t checked, uint64_t ran) {
     }
 }
 
+/* The image of the device at a place. */
+static uint8_t *image_at(int place) {
+    return set.images + place * FM31_IMAGE_BYTES;
+}
+
+/* Puts the device at a place into a slave byte, so many clocks of it done. */
+static void put_into_slave_byte(int place, uint8_t clocks, uint8_t bits) {
+    image_at(place)[PHASE] = SLAVE_BYTE;
+    image_at(place)[CLOCKS] = clocks;
+    image_at(place)[BYTE] = bits;
+}
+
+/* A set that runs on stands as a made one can: one device in a transfer, or all in one slave byte. */
+static void check_standing(void) {
+    make_set(3);
+    add(FM31_TICK);
+    put_into_slave_byte(0, 5, 0x14);
+    check_fault("set: one in a slave byte", FM31_IN_TRANSFER, FM31_OK);
+    put_into_slave_byte(2, 5, 0x14);
+    check_fault("set: two in the same slave byte", FM31_IN_TRANSFER, FM31_OK);
+    put_into_slave_byte(2, 4, 0x0A);
+    check_fault("set: one a clock behind", FM31_IN_TRANSFER, FM31_IN_TRANSFER);
+    put_into_slave_byte(2, 5, 0x15);
+    check_fault("set: another bit", FM31_IN_TRANSFER, FM31_IN_TRANSFER);
+    put_into_slave_byte(0, 8, 0xA6);
+    put_into_slave_byte(2, 0, 0x00);
+    check_fault("set: one is named already", FM31_IN_TRANSFER, FM31_IN_TRANSFER);
+    put_into_slave_byte(2, 8, 0xA0);
+    check_fault("set: two are named", FM31_IN_TRANSFER, FM31_IN_TRANSFER);
+    image_at(0)[SUPPLIES] = 1;
+    check_fault("set: in a transfer without power", FM31_WRONG_STATE, FM31_WRONG_STATE);
+}
+
+/* One device sends and one receives: put on one line, the second would store what it does not hear. */
+static void check_sender_and_receiver(void) {
+    make_set(2);
+    add(FM31_START);
+    add_byte(MEMORY | READ, 1);
+    check_equal("set: the sender alone",
+                fm3164_run(image_at(0), FM31_IMAGE_BYTES, set.memories[0], set.lengths[0], events,
+                           count, set.answers, set.room),
+                FM31_OK);
+    count = 0;
+    add(FM31_START);
+    add_byte(MEMORY, 1);
+    add_byte(PLACE >> 8, 1);
+    add_byte(PLACE & 0xFF, 1);
+    check_equal("set: the receiver alone",
+                fm31256_run(image_at(1), FM31_IMAGE_BYTES, set.memories[1], set.lengths[1], events,
+                            count, set.answers, set.room),
+                FM31_OK);
+    count = 0;
+    add_byte(0xFF, 1);
+    check_fault("set: a sender and a receiver", FM31_IN_TRANSFER, FM31_IN_TRANSFER);
+}
+
 /* Faults put together from the last number to the first: each goes before those that are there. */
 static void check_refusals(void) {
     make_set(2);
     add(FM31_TICK);
     check_fault("set: sound", FM31_OK, FM31_OK);
-    set.images[26] = 1;
+    put_into_slave_byte(0, 0, 0);
     check_fault("set: in a transfer", FM31_IN_TRANSFER, FM31_OK);
+    put_into_slave_byte(1, 1, 0);
+    check_fault("set: in two transfers", FM31_IN_TRANSFER, FM31_IN_TRANSFER);
     set.plan[1] = FM31_PLAN_256(3);
     check_fault("set: equal selects", FM31_EQUAL_SELECTS, FM31_EQUAL_SELECTS);
     set.room = 0;
     check_fault("set: short answers", FM31_EQUAL_SELECTS, FM31_SHORT_ANSWERS);
     events[0] = 12;
     check_fault("set: an edge of no device", FM31_EQUAL_SELECTS, FM31_UNKNOWN_EVENT);
-    set.images[27] = 9;
+    image_at(0)[CLOCKS] = 9;
     check_fault("set: a state outside its limits", FM31_WRONG_STATE, FM31_WRONG_STATE);
     set.lengths[1]--;
     check_fault("set: a memory of another size", FM31_WRONG_MEMORY, FM31_WRONG_MEMORY);
-    make_set(0);
-    check_fault("set: no device", FM31_WRONG_COUNT, FM31_WRONG_COUNT);
+    set.devices = 0;
+    check_fault("set: no device, and all that", FM31_WRONG_COUNT, FM31_WRONG_COUNT);
+    set.devices = PLAN_ROOM;
+    check_fault("set: too many, and all that", FM31_WRONG_COUNT, FM31_WRONG_COUNT);
+}
+
+/* Number 9 exactly if there are not one to four devices. */
+static void check_counts(void) {
+    for (uint64_t devices = 0; devices <= PLAN_ROOM; devices++) {
+        uint64_t number = devices >= 1 && devices <= FM31_SET_MOST ? FM31_OK : FM31_WRONG_COUNT;
+        make_set(devices);
+        check_fault("set: sound devices, by their count", number, number);
+    }
+    make_set(FM31_SET_MOST + 1);
+    image_at(FM31_SET_MOST)[PHASE] = 9;
+    check_fault("set: five, the fifth bad", FM31_WRONG_COUNT, FM31_WRONG_COUNT);
 }
 
 void check_sets(void) {
@@ -189,4 +270,7 @@ void check_sets(void) {
     }
     check_edges();
     check_refusals();
+    check_counts();
+    check_standing();
+    check_sender_and_receiver();
 }
