@@ -169,6 +169,8 @@ fn a_set_is_refused_when_it_is_made() {
     assert_eq!(Set::new([]), Err(SetRefusal::WrongCount));
     let five = Select::ALL.into_iter().chain([Select::ZERO]).map(fresh);
     assert_eq!(Set::new(five), Err(SetRefusal::WrongCount));
+    let six = std::iter::repeat_with(|| fresh(Select::ONE)).take(6);
+    assert_eq!(Set::new(six), Err(SetRefusal::WrongCount));
     let equal = [fresh(Select::ONE), fresh(Select::TWO), fresh(Select::ONE)];
     assert_eq!(Set::new(equal), Err(SetRefusal::EqualSelects));
     let mut device = Fm3164::fresh();
@@ -184,7 +186,34 @@ fn a_set_is_refused_when_it_is_made() {
     let short = Member::from_parts(Size::Kb256, Select::ZERO, &image, &[0; 8192]).unwrap();
     assert_eq!(Set::new([short]), Err(SetRefusal::MemoryLength));
     let malformed = Member::from_parts(Size::Kb64, Select::ZERO, &[0xFF; 64], &[0; 8192]).unwrap();
-    assert_eq!(Set::new([malformed]), Err(SetRefusal::Image));
+    assert_eq!(Set::new([malformed.clone()]), Err(SetRefusal::Image));
+    // The count goes before all others.
+    let five = std::iter::repeat_n(malformed, 5);
+    assert_eq!(Set::new(five), Err(SetRefusal::WrongCount));
+}
+
+/// A device that was alone and is in a transfer is put in another's place: it would send while the other
+/// receives, which no set that was made comes to.
+#[test]
+fn a_set_with_two_transfers_is_not_run() {
+    let fresh = |select| Member::fresh(Size::Kb64, select);
+    let mut set = Set::new([fresh(Select::ZERO), fresh(Select::ONE)]).unwrap();
+    set.step(event::START).unwrap();
+    for byte in [Select::ZERO.memory_byte(), 0x00, 0x10] {
+        set.run(&event::written_byte(byte)).unwrap();
+    }
+    let mut alone = Fm3164::fresh();
+    alone.step(event::START).unwrap();
+    alone
+        .run(&event::written_byte(Select::ZERO.memory_byte() | 1))
+        .unwrap();
+    *set.device_mut(1).unwrap() = Member::of(alone, Select::ONE);
+    let before = set.clone();
+    assert_eq!(
+        set.run(&event::written_byte(0xFF)),
+        Err(SetRefusal::InTransfer)
+    );
+    assert_eq!(set, before);
 }
 
 #[test]

@@ -95,9 +95,9 @@ impl Error for Refusal {}
 
 /// Why a set was not made, or did no event. Under every refusal nothing was written.
 ///
-/// A set is tested for 1, 2, 9, 10 and 11 when it is made; a list run is refused by 3 and 4 alone, since
-/// what 1, 2, 9 and 10 ask stays true of a [`Set`](super::Set): it lends its memories, and nothing else
-/// of its devices, to be changed.
+/// They are tested in the order in which they stand here, and the first that applies is given: 3 and 4
+/// in a list run only, which a [`Set`](super::Set) is refused by alone. What the others ask stays true
+/// of it: it lends its memories, and nothing else of its devices, to be changed.
 ///
 /// ```
 /// use fm3130::family::{Set, SetRefusal};
@@ -108,6 +108,8 @@ impl Error for Refusal {}
 /// ```
 #[derive(Clone, Copy, Debug, PartialEq, Eq, Hash)]
 pub enum SetRefusal {
+    /// 9: not one to four devices.
+    WrongCount,
     /// 1: a memory has the wrong length for the size of its device.
     MemoryLength,
     /// 2: an image that no well-formed state of that size and those select bits writes.
@@ -116,11 +118,10 @@ pub enum SetRefusal {
     UnknownEvent,
     /// 4: answers shorter than events.
     ShortAnswers,
-    /// 9: not one to four devices.
-    WrongCount,
     /// 10: two devices have the same select bits.
     EqualSelects,
-    /// 11: a device is not between transfers.
+    /// 11: a device is not between transfers; in a list run, two devices stand as no two of a set that
+    /// was made can: both in a transfer, and not in the same slave byte before its acknowledge.
     InTransfer,
 }
 
@@ -128,11 +129,11 @@ impl SetRefusal {
     /// The number, 1 to 4 or 9 to 11.
     pub fn number(self) -> u64 {
         match self {
+            SetRefusal::WrongCount => 9,
             SetRefusal::MemoryLength => 1,
             SetRefusal::Image => 2,
             SetRefusal::UnknownEvent => 3,
             SetRefusal::ShortAnswers => 4,
-            SetRefusal::WrongCount => 9,
             SetRefusal::EqualSelects => 10,
             SetRefusal::InTransfer => 11,
         }
@@ -141,13 +142,13 @@ impl SetRefusal {
     /// When it is given.
     pub fn words(self) -> &'static str {
         match self {
+            SetRefusal::WrongCount => "a set has one to four devices",
             SetRefusal::MemoryLength => "a memory has the wrong length for the size of its device",
             SetRefusal::Image => {
                 "no well-formed state of its device's size and select bits writes an image"
             }
             SetRefusal::UnknownEvent => "some event byte names no device of the set",
             SetRefusal::ShortAnswers => "answers shorter than events",
-            SetRefusal::WrongCount => "a set has one to four devices",
             SetRefusal::EqualSelects => "two devices have the same select bits",
             SetRefusal::InTransfer => "a device is not between transfers",
         }
@@ -160,11 +161,11 @@ impl SetRefusal {
     pub(crate) fn outcome_of(number: u64) -> Result<(), SetRefusal> {
         Err(match number {
             0 => return Ok(()),
+            9 => SetRefusal::WrongCount,
             1 => SetRefusal::MemoryLength,
             2 => SetRefusal::Image,
             3 => SetRefusal::UnknownEvent,
             4 => SetRefusal::ShortAnswers,
-            9 => SetRefusal::WrongCount,
             10 => SetRefusal::EqualSelects,
             _ => SetRefusal::InTransfer,
         })

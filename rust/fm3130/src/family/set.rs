@@ -195,7 +195,7 @@ impl Set {
     ///
     /// # Errors
     ///
-    /// [`SetRefusal::MemoryLength`], [`SetRefusal::Image`], [`SetRefusal::WrongCount`],
+    /// [`SetRefusal::WrongCount`], [`SetRefusal::MemoryLength`], [`SetRefusal::Image`],
     /// [`SetRefusal::EqualSelects`] or [`SetRefusal::InTransfer`], the first that applies.
     ///
     /// ```
