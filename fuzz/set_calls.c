@@ -6,6 +6,9 @@
 #include "family_parts.h"
 #include "hold.h"
 
+/* The first two phases of docs/IMAGE.md. */
+enum { IDLE_PHASE, SLAVE_PHASE };
+
 static struct fence plan_fence, images_fence, memory_fences[PLACES], events_fence, answers_fence;
 
 void lay_set_fences(void)
@@ -30,8 +33,6 @@ static const struct part *part_at(const struct set_call *call, uint64_t place)
     return &family_parts[size_at(call, place) == LARGE_MEMORY_BYTES];
 }
 
-uint64_t devices_of(const struct set_call *call) { return call->plan.length < 5 ? call->plan.length : 5; }
-
 uint64_t places_of(const struct set_call *call) { return call->plan.length < PLACES ? call->plan.length : PLACES; }
 
 struct limits limits_at(const struct set_call *call, uint64_t place)
@@ -43,13 +44,15 @@ struct limits limits_at(const struct set_call *call, uint64_t place)
 
 /* ---- the numbers */
 
-/* Numbers 1 and 2, which both entries can give. */
+/* Numbers 9, 1 and 2, which both entries can give, the count first. */
 static uint64_t reading_number(const struct set_call *call)
 {
+    if (call->plan.length < 1 || call->plan.length > PLACES)
+        return WRONG_COUNT;
     for (uint64_t place = 0; place < places_of(call); place++)
         if (call->memories[place].length != size_at(call, place))
             return WRONG_MEMORY;
-    if (call->images.length != IMAGE_BYTES * devices_of(call))
+    if (call->images.length != IMAGE_BYTES * call->plan.length)
         return WRONG_STATE;
     for (uint64_t place = 0; place < places_of(call); place++) {
         struct limits limits = limits_at(call, place);
@@ -60,30 +63,48 @@ static uint64_t reading_number(const struct set_call *call)
     return ACCEPTED;
 }
 
-/* Numbers 9 and 10. */
-static uint64_t together_number(const struct set_call *call)
+static int selects_differ(const struct set_call *call)
 {
-    uint64_t devices = devices_of(call);
-    if (devices < 1 || devices > PLACES)
-        return WRONG_COUNT;
-    for (uint64_t place = 0; place < devices; place++)
+    for (uint64_t place = 0; place < call->plan.length; place++)
         for (uint64_t other = 0; other < place; other++)
             if ((call->plan.start[place] & 3) == (call->plan.start[other] & 3))
-                return EQUAL_SELECTS;
-    return ACCEPTED;
+                return 0;
+    return 1;
+}
+
+static const uint8_t *transfer_at(const struct set_call *call, uint64_t place)
+{
+    return &call->images.start[IMAGE_BYTES * place + PHASE_PLACE];
 }
 
 uint64_t check_number(const struct set_call *call)
 {
     uint64_t number = reading_number(call);
-    if (number == ACCEPTED)
-        number = together_number(call);
     if (number != ACCEPTED)
         return number;
-    for (uint64_t place = 0; place < places_of(call); place++)
-        if (call->images.start[IMAGE_BYTES * place + PHASE_PLACE] != 0)
+    if (!selects_differ(call))
+        return EQUAL_SELECTS;
+    for (uint64_t place = 0; place < call->plan.length; place++)
+        if (transfer_at(call, place)[0] != IDLE_PHASE)
             return IN_TRANSFER;
     return ACCEPTED;
+}
+
+/* Of two devices one is idle, or both are in the same slave byte, which is not whole: its phase, its clocks, its bits. */
+static int are_clear(const uint8_t *transfer, const uint8_t *other)
+{
+    if (transfer[0] == IDLE_PHASE || other[0] == IDLE_PHASE)
+        return 1;
+    return transfer[0] == SLAVE_PHASE && transfer[1] < 8 && memcmp(transfer, other, 3) == 0;
+}
+
+static int stands_together(const struct set_call *call)
+{
+    for (uint64_t place = 0; place < call->plan.length; place++)
+        for (uint64_t other = 0; other < place; other++)
+            if (!are_clear(transfer_at(call, place), transfer_at(call, other)))
+                return 0;
+    return 1;
 }
 
 uint64_t set_run_number(const struct set_call *call)
@@ -92,9 +113,13 @@ uint64_t set_run_number(const struct set_call *call)
     if (number != ACCEPTED)
         return number;
     for (uint64_t i = 0; i < call->events.length; i++)
-        if (call->events.start[i] >= 8 + 2 * devices_of(call))
+        if (call->events.start[i] >= 8 + 2 * call->plan.length)
             return UNKNOWN_EVENT;
-    return call->answers.length < call->events.length ? SHORT_ANSWERS : together_number(call);
+    if (call->answers.length < call->events.length)
+        return SHORT_ANSWERS;
+    if (!selects_differ(call))
+        return EQUAL_SELECTS;
+    return stands_together(call) ? ACCEPTED : IN_TRANSFER;
 }
 
 /* ---- choices */
@@ -144,28 +169,51 @@ static uint8_t slave_byte(uint8_t choice)
 static void choose_called(struct choices *choices, uint8_t *image)
 {
     image[SUPPLIES_PLACE] = 0;
-    image[PHASE_PLACE] = 1;
+    image[PHASE_PLACE] = SLAVE_PHASE;
     image[PHASE_PLACE + 1] = 8;
     image[PHASE_PLACE + 2] = slave_byte(choose_byte(choices));
     image[PHASE_PLACE + 3] = 0;
 }
 
-/* Fresh images or any that a device can have, mostly one a device; half of the time between transfers. */
+/* The transfer's bytes of an image: phase, clocks, byte, first address byte. */
+enum { TRANSFER_BYTES = 4 };
+
+/* All devices but one between transfers, or all with main power in one slave byte. */
+static void let_stand_together(struct choices *choices, struct set_call *call, uint64_t places)
+{
+    uint8_t way = choose_byte(choices), clocks = way / 4 % 8;
+    uint8_t bits = choose_byte(choices) & ((1u << clocks) - 1);
+    for (uint64_t place = 0; place < places; place++) {
+        uint8_t *image = &call->images.start[IMAGE_BYTES * place];
+        uint8_t called[TRANSFER_BYTES] = {SLAVE_PHASE, clocks, bits, 0}, idle[TRANSFER_BYTES] = {IDLE_PHASE};
+        if (way & 0x80 && image[SUPPLIES_PLACE] == 0)
+            memcpy(&image[PHASE_PLACE], called, TRANSFER_BYTES);
+        else if (place != way % PLACES)
+            memcpy(&image[PHASE_PLACE], idle, TRANSFER_BYTES);
+    }
+}
+
+/* Fresh images or any that a device can have, mostly one a device; half of the time between transfers, else mostly as
+ * the devices of a made set can stand. */
 static void choose_images(struct choices *choices, struct set_call *call, int at_the_end)
 {
     uint8_t way = choose_byte(choices);
-    size_t length = IMAGE_BYTES * devices_of(call);
+    size_t length = IMAGE_BYTES * (size_t)call->plan.length;
+    uint64_t places;
     if (way % 32 == 31)
         length = choose_pair(choices) % (MOST_IMAGES + 1);
     call->images = fenced_buffer(images_fence, length, at_the_end);
     memset(call->images.start, 0, length);
-    for (uint64_t place = 0; place < places_of(call) && IMAGE_BYTES * (place + 1) <= length; place++) {
+    places = call->plan.length < length / IMAGE_BYTES ? call->plan.length : length / IMAGE_BYTES;
+    for (uint64_t place = 0; place < places; place++) {
         struct buffer image = {.start = &call->images.start[IMAGE_BYTES * place], .length = IMAGE_BYTES};
         uint8_t image_way = choose_byte(choices);
         fill_image(part_at(call, place), choices, image, way & 0x80 ? image_way & 0x87 : image_way);
         if (image_way % 16 == 1)
             choose_called(choices, image.start);
     }
+    if (!(way & 0x80) && way % 4 != 0)
+        let_stand_together(choices, call, places);
 }
 
 /* One choice of bus traffic: a single event, a byte on the bus, a Start with a slave byte of some device, or a companion
@@ -174,7 +222,7 @@ static void add_traffic(struct choices *choices, const struct set_call *call, st
 {
     uint8_t kind = choose_byte(choices);
     if (kind < 0x60) {
-        add_event(list, (uint8_t)(kind % (8 + 2 * devices_of(call))));
+        add_event(list, (uint8_t)(kind % (8 + 2 * call->plan.length)));
     } else if (kind < 0xC0) {
         add_byte(list, choose_bus_byte(&family_parts[0], choices), kind & 1);
     } else if (kind < 0xE0) {
@@ -193,7 +241,7 @@ static void choose_events(struct choices *choices, struct set_call *call, struct
         if (way % 8 < 6)
             add_traffic(choices, call, list);
         else
-            add_event(list, (uint8_t)(choose_byte(choices) % (8 + 2 * devices_of(call) + (way % 8 == 7))));
+            add_event(list, (uint8_t)(choose_byte(choices) % (8 + 2 * call->plan.length + (way % 8 == 7))));
     }
 }
 

@@ -32,8 +32,7 @@ void lay_set_fences(void);
 /* The call that the input chooses; all that is left of the input becomes events. */
 struct set_call choose_set_call(struct choices *choices);
 
-/* How many devices a plan has; five stands for more than four. Of these so many have a place. */
-uint64_t devices_of(const struct set_call *call);
+/* How many devices of a plan have a place: four at most. */
 uint64_t places_of(const struct set_call *call);
 
 /* What the device at a place of the plan allows. */
