@@ -2,7 +2,7 @@
 //! A list of events on the proved program and on the second program.
 
 use crate::{archive, image};
-use second::generate::{HandedInList, List};
+use second::generate::{AnyPhaseList, HandedInList, List};
 use second::Device;
 
 /// What a run leaves: everything that a host can see of it.
@@ -32,6 +32,15 @@ impl Case {
 
     /// A list on the state that is handed in with it.
     pub fn handed_in(list: &HandedInList) -> Case {
+        Case {
+            name: format!("{}/{}", list.family, list.name),
+            device: list.device(),
+            events: list.events.clone(),
+        }
+    }
+
+    /// A list on a state that stands anywhere, also inside a byte.
+    pub fn in_any_phase(list: &AnyPhaseList) -> Case {
         Case {
             name: format!("{}/{}", list.family, list.name),
             device: list.device(),

@@ -5,8 +5,8 @@ use compare::family::{self, by_archive, by_second, hold, image_of, is_accepted};
 use compare::image::IMAGE_BYTES;
 use second::family::{Size, State, SIZES};
 use second::generate::{
-    any_family_state, count_family_events, family_calls, family_exhaustive, family_random,
-    family_structured, family_views, FamilyCall, FamilyList, RandomSource,
+    any_family_state, count_family_events, family_any_phase, family_calls, family_exhaustive,
+    family_random, family_structured, family_views, FamilyCall, FamilyList, RandomSource,
 };
 
 fn hold_all(lists: &[FamilyList], least: usize) {
@@ -33,6 +33,14 @@ fn structured_lists_agree() {
 fn random_lists_agree() {
     for size in SIZES {
         hold_all(&family_random(size, 11, 3_000_000), 2_900_000);
+    }
+}
+
+/// States that the limits admit: any addresses, under every supply, inside any byte.
+#[test]
+fn lists_on_states_in_any_phase_agree() {
+    for size in SIZES {
+        hold_all(&family_any_phase(size, 43, 1_000_000), 900_000);
     }
 }
 

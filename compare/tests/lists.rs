@@ -3,8 +3,8 @@
 
 use compare::lists::{by_archive, by_second, hold, Case};
 use second::generate::{
-    count_events, count_handed_in_events, exhaustive, handed_in, handed_in_random, random,
-    structured, HandedInList, List,
+    count_events, count_handed_in_events, exhaustive, handed_in, handed_in_any_phase,
+    handed_in_random, random, structured, HandedInList, List,
 };
 
 fn hold_all(lists: &[List], least: usize) {
@@ -42,6 +42,18 @@ fn random_lists_agree() {
 fn lists_on_states_handed_in_agree() {
     hold_handed_in(&handed_in(), 500_000);
     hold_handed_in(&handed_in_random(13, 2_000_000), 1_900_000);
+}
+
+/// States that the limits admit and no fresh device may ever reach: any addresses, under every supply, inside any byte.
+#[test]
+fn lists_on_states_in_any_phase_agree() {
+    let lists = handed_in_any_phase(41, 2_000_000);
+    lists
+        .iter()
+        .map(Case::in_any_phase)
+        .for_each(|case| hold(&case));
+    let events: usize = lists.iter().map(|list| list.events.len()).sum();
+    assert!(events >= 1_900_000, "{events} events are few");
 }
 
 #[test]
