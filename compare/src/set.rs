@@ -4,8 +4,12 @@
 use crate::family::{first_difference, image_of};
 use crate::image::IMAGE_BYTES;
 use fm3130_sys::{fm31_set_check, fm31_set_run};
-use second::family::{Member, Set, Size, State};
+use second::family::{run_set, Member, Set, Size, State};
 use second::generate::SetList;
+
+/// Where an image has the supplies, 0 for main power, and the phase, 0 for no transfer.
+const SUPPLIES: usize = 25;
+const PHASE: usize = 26;
 
 /// The buffers of a set, as C has them: the plan, the images one after the other, and four memories.
 #[derive(Clone, Debug, PartialEq, Eq)]
@@ -30,7 +34,7 @@ impl Buffers {
     }
 
     /// The buffers that a set of the second program has become.
-    fn after(plan: &[u8], set: &Set) -> Buffers {
+    pub fn after(plan: &[u8], set: &Set) -> Buffers {
         let mut memories: [Vec<u8>; 4] = Default::default();
         for (memory, device) in memories.iter_mut().zip(&set.devices) {
             memory.clone_from(&device.memory);
@@ -69,24 +73,33 @@ pub fn run(buffers: &mut Buffers, events: &[u8], answers: &mut [u8]) -> u64 {
     fm31_set_run(plan, images, one, two, three, four, events, answers)
 }
 
-/// Our number for one of the second program's: 02 gives none for the two refusals of a set, and each program chose its own.
-pub fn number_of(second: u8) -> u64 {
+/// The number for one of the second program's. It takes a state by value and asks by 11 that a device without main power is
+/// in no transfer; of an image that is a limit (docs/IMAGE.md), and number 2, after 9 and 1.
+pub fn number_of(second: u8, buffers: &Buffers) -> u64 {
+    let mut images = buffers.images.chunks_exact(IMAGE_BYTES);
+    let is_unpowered = |image: &[u8]| image[SUPPLIES] != 0 && image[PHASE] != 0;
     match second {
-        9 => 10,
-        10 => 11,
-        other => u64::from(other),
+        9 | 1 => u64::from(second),
+        _ if images.any(is_unpowered) => 2,
+        _ => u64::from(second),
     }
 }
 
-/// Holds the proved program to the second program on one list, whole and in pieces of 1, 7 and 64 events.
+/// Holds the proved program to the second program on one list for a set that can be made.
+pub fn hold_made(list: &SetList) {
+    let made = check(&Buffers::of(&list.members()));
+    assert_eq!(made, 0, "{}/{}", list.family, list.name);
+    hold(list);
+}
+
+/// Holds the proved program to the second program on one list, whole and in pieces of 1, 7 and 64 events. The devices may be
+/// inside a transfer when the list begins.
 pub fn hold(list: &SetList) {
     let begin = Buffers::of(&list.members());
-    assert_eq!(check(&begin), 0, "{}/{}", list.family, list.name);
-    let mut set = list.set();
-    let expected_answers = set
-        .run(&list.events, list.events.len())
+    let ran = run_set(list.members(), &list.events, list.events.len())
         .expect("a list of the generators is accepted");
-    let expected = Buffers::after(&begin.plan, &set);
+    let expected_answers = ran.answers;
+    let expected = Buffers::after(&begin.plan, &ran.set);
     for most in [usize::MAX, 1, 7, 64] {
         let mut found = begin.clone();
         let mut answers = vec![0xEE; list.events.len()];
