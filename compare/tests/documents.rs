@@ -19,7 +19,7 @@ use std::path::{Path, PathBuf};
 const FILES: [&str; 7] = ["antt", "bus", "h", "md", "rs", "rt", "sh"];
 
 /// Files that are the C compiler's.
-const OF_C: [&str; 3] = ["stddef.h", "stdint.h", "stdio.h"];
+const OF_C: [&str; 4] = ["stddef.h", "stdint.h", "stdio.h", "stdlib.h"];
 
 fn text_of(path: &Path) -> Option<String> {
     fs::read_to_string(path).ok()
