@@ -30,7 +30,7 @@ fn judged(folder: &Folder, events: &[u8]) -> Ran {
 fn another_parts_acknowledge_in_a_capture_is_the_masters_or_differs() {
     let folder = Folder::new("other-parts-capture");
     let released = judged(&folder, &ANOTHERS);
-    assert_eq!(released.code, 4);
+    assert_eq!(released.code, 5);
     assert!(released.output.contains("clock 9, the acknowledge\n"));
     assert!(released.output.contains("recorded low, right high\n"));
     let mut pulled = ANOTHERS;
@@ -52,7 +52,7 @@ fn an_acknowledge_in_a_waveform_is_judged_in_the_devices_own_transactions() {
         folder.write("w.bus", text);
         folder.succeed(&["run", "w.bus", "--quiet", "--vcd", "w.vcd"]);
         let ran = folder.run(&["judge", "--from-vcd", "w.vcd"]);
-        assert_eq!(ran.code == 4, is_found, "{text}: {}", ran.output);
+        assert_eq!(ran.code == 5, is_found, "{text}: {}", ran.output);
         assert_eq!(ran.output.contains("clock 9, the acknowledge\n"), is_found);
     }
 }

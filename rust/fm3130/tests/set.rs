@@ -192,30 +192,6 @@ fn a_set_is_refused_when_it_is_made() {
     assert_eq!(Set::new(five), Err(SetRefusal::WrongCount));
 }
 
-/// A device that was alone and is in a transfer is put in another's place: it would send while the other
-/// receives, which no set that was made comes to.
-#[test]
-fn a_set_with_two_transfers_is_not_run() {
-    let fresh = |select| Member::fresh(Size::Kb64, select);
-    let mut set = Set::new([fresh(Select::ZERO), fresh(Select::ONE)]).unwrap();
-    set.step(event::START).unwrap();
-    for byte in [Select::ZERO.memory_byte(), 0x00, 0x10] {
-        set.run(&event::written_byte(byte)).unwrap();
-    }
-    let mut alone = Fm3164::fresh();
-    alone.step(event::START).unwrap();
-    alone
-        .run(&event::written_byte(Select::ZERO.memory_byte() | 1))
-        .unwrap();
-    *set.device_mut(1).unwrap() = Member::of(alone, Select::ONE);
-    let before = set.clone();
-    assert_eq!(
-        set.run(&event::written_byte(0xFF)),
-        Err(SetRefusal::InTransfer)
-    );
-    assert_eq!(set, before);
-}
-
 #[test]
 fn a_refused_list_changes_nothing() {
     let mut set = Set::new([

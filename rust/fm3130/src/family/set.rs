@@ -445,6 +445,7 @@ fn edge(place: usize, first: u8) -> u8 {
 #[cfg(test)]
 mod tests {
     use super::*;
+    use crate::family::{event, Fm3164};
 
     /// Two devices with the same select bits, which [`Set::new`] refuses.
     fn past_the_test() -> Set {
@@ -467,6 +468,27 @@ mod tests {
         let serial = crate::family::registers::SERIAL;
         assert_eq!(set.write_registers(Select::ONE, serial, &[1]), Err(refused));
         assert_eq!(set.read_registers(Select::ONE, serial, 1), Err(refused));
+        assert_eq!(set, before);
+    }
+
+    /// A device that was alone and sends is put in the place of one of a set whose other device receives:
+    /// no set that was made comes to that.
+    #[test]
+    fn devices_in_transfers_of_their_own_are_not_run() {
+        let members = [Select::ZERO, Select::ONE].map(|one| Member::fresh(Size::Kb64, one));
+        let mut set = Set::new(members).unwrap();
+        set.step(event::START).unwrap();
+        for byte in [Select::ZERO.memory_byte(), 0x00, 0x10] {
+            set.run(&event::written_byte(byte)).unwrap();
+        }
+        let mut alone = Fm3164::fresh();
+        alone.step(event::START).unwrap();
+        let read = Select::ZERO.memory_byte() | 1;
+        alone.run(&event::written_byte(read)).unwrap();
+        set.members[1] = Member::of(alone, Select::ONE);
+        let before = set.clone();
+        let written = event::written_byte(0xFF);
+        assert_eq!(set.run(&written), Err(SetRefusal::InTransfer));
         assert_eq!(set, before);
     }
 }
