@@ -13,7 +13,7 @@ use Rattle.wire.specs.declared.Named.the-variants.{Nobody}
 use Rattle.wire.specs.declared.Phase.{Phase}
 use Rattle.wire.specs.declared.Phase.the-variants.{Idle, Slave, AddressHigh, AddressLow, Pointer, Write, Read}
 use Rattle.wire.proofs.Tests.{by-test}
-use Rattle.bus.specs.Select.{selectOf, slaveNamesFor}
+use Rattle.bus.specs.Select.{selectOf, slaveNamesFor, lone}
 
 selected-nobody : (b : ℕ) → (selectOf b ≡ 0 → ⊥) → slaveNames b ≡ Nobody
 unfolding slaveNames
@@ -34,6 +34,10 @@ lone-names b =
     let m : b - 2 * selectOf b ≡ b = omega arith in
     rw (t, m))
     (λ t. rw t (sym (selected-nobody b (eqb-false (selectOf b) 0 t))))
+
+-- the same of the two as functions: a part with select bits 00 is a part with 01's slave bytes
+pub lone-is : slaveNamesFor lone ≡ slaveNames
+lone-is = λ i b. lone-names b i
 
 pub lone-within : (legal : ℕ → Bool) (p : Phase)
     → phaseWithin (slaveNamesFor 0) legal p ≡ phaseWithin slaveNames legal p

@@ -1,5 +1,5 @@
 -- SPDX-License-Identifier: Apache-2.0
--- A part by its size, its select bits and its companion: the memory is the same in all of them.
+-- A part by its size, whom its slave bytes name, and its companion: the memory is the same in all of them.
 --   Desks    what a companion does            partOf   the part, as the bus machine has it
 --   hollow   a companion that only replies: what is left of a part when its companion is taken out
 -- Assumes nothing.
@@ -7,8 +7,11 @@ use Prim.Native.Nat.{ℕ}
 use Rattle.wire.specs.Clock.{Taken}
 use Rattle.wire.specs.Memory.{Cells, pointed, putByte, byteAt, steppedOn}
 use Rattle.wire.specs.Machine.{Parts}
-use Rattle.bus.specs.Select.{slaveNamesFor}
+use Rattle.wire.specs.declared.Named.{Named}
+use Rattle.bus.specs.Happening.{Happening, edges}
 use Rattle.bus.specs.declared.Beat.{Beat}
+use Rattle.bus.specs.declared.Power.{Power}
+use Rattle.bus.specs.declared.Power.the-variants.{On}
 use Rattle.bus.specs.declared.Reply.{Reply}
 
 pub record Desks : Type 1 where
@@ -18,24 +21,28 @@ pub record Desks : Type 1 where
   pub store : Desk → ℕ → Taken Desk
   pub load : Desk → ℕ
   pub loaded : Desk → ℕ → Desk
-  -- ticks and edges; WP1 WP0; bits 3 to 1 of an answer
+  -- an event byte beyond 01's eight; its ticks, each a second or an edge; what these do
+  pub beyond : ℕ → Happening
+  pub Tick : Type 0
+  pub beatOf : Tick → Beat
   pub ticked : Beat → Desk → Desk
+  -- WP1 WP0; bits 3 to 1 of an answer, by the supplies that are present
   pub guard : Desk → ℕ
-  pub pin : Desk → ℕ
+  pub pin : Power → Desk → ℕ
   -- main power lost with backup; both supplies gone; main power back after backup
   pub backed : Desk → Desk
   pub lost : Desk → Desk
   pub returned : Desk → Desk
 
-abbrev pub partOf : ℕ → ℕ → Desks → Parts
-partOf size select D =
+abbrev pub partOf : ℕ → (ℕ → Named) → Desks → Parts
+partOf size names D =
     record {
-      Tick = Beat;
+      Tick = D .Tick;
       Guard = ℕ;
       Cells = Cells;
       Desk = D .Desk;
       Pin = ℕ;
-      names = slaveNamesFor select;
+      names = names;
       point = pointed size;
       put = putByte size;
       fetch = byteAt;
@@ -44,9 +51,9 @@ partOf size select D =
       store = D .store;
       load = D .load;
       loaded = D .loaded;
-      ticked = D .ticked;
+      ticked = λ t c. D .ticked (D .beatOf t) c;
       guard = D .guard;
-      pin = D .pin;
+      pin = D .pin On;
     }
 
 -- Auxiliary: a reply as what taking a byte leaves.
@@ -61,9 +68,12 @@ hollow g r =
       store = λ u b. replied r;
       load = λ u. r .byte;
       loaded = λ u b. tt;
+      beyond = edges;
+      Tick = Beat;
+      beatOf = λ t. t;
       ticked = λ t u. tt;
       guard = λ u. g;
-      pin = λ u. 0;
+      pin = λ p u. 0;
       backed = λ u. tt;
       lost = λ u. tt;
       returned = λ u. tt;

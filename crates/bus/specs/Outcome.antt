@@ -8,11 +8,13 @@ use mathlib.Core.List.{List}
 use lib.ListN.{length}
 use Rattle.wire.specs.Memory.{lent}
 use Rattle.wire.specs.Machine.{Out, clocked}
+use Rattle.wire.specs.declared.Named.{Named}
 use Rattle.wire.specs.declared.Phase.{Phase}
 use Rattle.wire.specs.declared.Turned.{Turned}
 use Rattle.wire.specs.declared.Moved.{Moved}
 use Rattle.bus.specs.Desk.{hollow, partOf}
-use Rattle.bus.specs.Event.{Happening, Done, eventOn, eventOf}
+use Rattle.bus.specs.Happening.{Happening}
+use Rattle.bus.specs.Event.{Done, eventOn, eventOf}
 use Rattle.bus.specs.declared.Power.{Power}
 use Rattle.bus.specs.declared.Bus.{Bus}
 use Rattle.bus.specs.declared.Reply.{Reply}
@@ -40,9 +42,9 @@ pub record Left : Type 0 where
 abbrev pub left : Went → List ℕ → Left
 left r m = record { went = r; memory = m }
 
-module _ (size select guard : ℕ) (r : Reply) where
+module _ (size : ℕ) (names : ℕ → Named) (guard : ℕ) (r : Reply) where
   -- A Clock, by phase, with the bus's own power.
-  abbrev pub powerKept : Bus → Out (partOf size select (hollow guard r)) → Left
+  abbrev pub powerKept : Bus → Out (partOf size names (hollow guard r)) → Left
   powerKept u o =
       left
       (record {
@@ -52,14 +54,14 @@ module _ (size select guard : ℕ) (r : Reply) where
       (o .state .memory .bytes)
 
   abbrev pub clockedWith : Bus → List ℕ → Phase → Bool → Left
-  clockedWith u m p d = powerKept u (clocked (partOf size select (hollow guard r)) p (lent m (u .address)) tt d)
+  clockedWith u m p d = powerKept u (clocked (partOf size names (hollow guard r)) p (lent m (u .address)) tt d)
 
   -- An event, with its companion taken out.
-  abbrev pub leftOf : Done size select (hollow guard r) → Left
+  abbrev pub leftOf : Done size names (hollow guard r) → Left
   leftOf o = left (record { bus = o .bus; line = o .line }) (o .memory)
 
   abbrev pub wentOn : Power → Happening → Bus → List ℕ → Left
-  wentOn p x u m = leftOf (eventOn size select (hollow guard r) p x u tt m)
+  wentOn p x u m = leftOf (eventOn size names (hollow guard r) p x u tt m)
 
   abbrev pub wentOf : Bus → List ℕ → ℕ → Left
-  wentOf u m e = leftOf (eventOf size select (hollow guard r) u tt m e)
+  wentOf u m e = leftOf (eventOf size names (hollow guard r) u tt m e)

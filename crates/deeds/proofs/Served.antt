@@ -5,8 +5,10 @@
 use Prim.Native.Nat.{ℕ}
 use mathlib.Core.Path.{ap, sym, subst}
 use mathlib.Core.List.{List}
+use Rattle.wire.specs.declared.Named.{Named}
 use Rattle.bus.specs.Desk.{Desks}
-use Rattle.bus.specs.Event.{Happening, Done, eventOn}
+use Rattle.bus.specs.Happening.{Happening}
+use Rattle.bus.specs.Event.{Done, eventOn}
 use Rattle.deeds.specs.Serve.{deedOf, servedOf}
 use Rattle.bus.specs.declared.Beat.{Beat}
 use Rattle.bus.specs.declared.Power.{Power}
@@ -37,8 +39,8 @@ module _ (D : Desks) (Rel : D .Desk → Type 0) (c : D .Desk) (A : AllLeave D Re
   served-leaves deed.Lost = A .lost
   served-leaves deed.Returned = A .returned
 
-  pub event-leaves : (size select : ℕ) (u : Bus) (m : List ℕ) (p : Power) (x : Happening)
-      → Rel (eventOn size select D p x u c m .companion)
-  event-leaves size select u m p x =
-      subst Rel (sym (ap (λ (d : Done size select D). d .companion) (split size select D u c m p x)))
+  pub event-leaves : (size : ℕ) (names : ℕ → Named) (u : Bus) (m : List ℕ) (p : Power) (x : Happening)
+      → Rel (eventOn size names D p x u c m .companion)
+  event-leaves size names u m p x =
+      subst Rel (sym (ap (λ (d : Done size names D). d .companion) (split size names D u c m p x)))
       (served-leaves (deedOf p (u .phase) x))

@@ -13,10 +13,12 @@ use Rattle.wire.specs.Kinds.{pointerByte, companionByte, companionRead}
 use Rattle.wire.specs.Memory.{lent}
 use Rattle.wire.specs.Machine.{Line, start, stop, clock, lined, clocked}
 use Rattle.wire.specs.declared.Side.the-variants.{Memory, Companion}
+use Rattle.wire.specs.declared.Named.{Named}
 use Rattle.wire.specs.declared.Phase.{Phase}
 use Rattle.wire.specs.declared.Phase.the-variants.{Idle, Slave, AddressHigh, AddressLow, Pointer, Write, Read}
 use Rattle.bus.specs.Desk.{Desks, partOf, hollow}
-use Rattle.bus.specs.Event.{Happening, onWire, beat, lost, gone, returned, Done, doneOf, eventOn}
+use Rattle.bus.specs.Happening.{Happening, onWire, beat, lost, gone, returned}
+use Rattle.bus.specs.Event.{Done, doneOf, eventOn}
 use Rattle.deeds.specs.Serve.{atLast, atEnds, clockDeed, lineDeed, deedOf, servedOf}
 use Rattle.bus.specs.Outcome.{Left}
 use Rattle.bus.specs.Outcome as outcome
@@ -26,14 +28,14 @@ use Rattle.bus.specs.declared.Bus.{Bus}
 use Rattle.deeds.specs.declared.Deed.{Deed}
 use Rattle.deeds.specs.declared.Deed.the-variants as deed
 
-module _ (size select : ℕ) (D : Desks) where
+module _ (size : ℕ) (names : ℕ → Named) (D : Desks) where
   -- what the bus did, with the companion put back
-  abbrev pub joined : Left → D .Desk → Done size select D
+  abbrev pub joined : Left → D .Desk → Done size names D
   joined l c = record { bus = l .went .bus; companion = c; memory = l .memory; line = l .went .line }
 
-  abbrev pub splitOf : Power → Happening → Deed → Bus → D .Desk → List ℕ → Done size select D
+  abbrev pub splitOf : Power → Happening → Deed → Bus → D .Desk → List ℕ → Done size names D
   splitOf p x q u c m =
-      let s = servedOf D q c in joined (outcome.wentOn size select (D .guard c) (s .reply) p x u m) (s .next)
+      let s = servedOf D q c in joined (outcome.wentOn size names (D .guard c) (s .reply) p x u m) (s .next)
 
   module _ (u : Bus) (c : D .Desk) (m : List ℕ) where
     -- the three kinds of byte that serve the companion, at each clock
@@ -71,9 +73,9 @@ module _ (size select : ℕ) (D : Desks) where
     load-split ack k b d = (refl, refl, refl)
 
     clock-split : (p : Phase) (d : Bool)
-        → doneOf size select D (clocked (partOf size select D) p (lent m (u .address)) c d)
+        → doneOf size names D (clocked (partOf size names D) p (lent m (u .address)) c d)
         ≡ (let s = servedOf D (clockDeed p d) c in
-        let o = doneOf size select (hollow (D .guard c) (s .reply)) (clocked (partOf size select (hollow (D .guard c)
+        let o = doneOf size names (hollow (D .guard c) (s .reply)) (clocked (partOf size names (hollow (D .guard c)
         (s .reply))) p (lent m (u .address)) tt d) in
         record { bus = o .bus; companion = s .next; memory = o .memory; line = o .line })
     unfolding clocked clockDeed
@@ -109,13 +111,13 @@ module _ (size select : ℕ) (D : Desks) where
         }
 
     line-split : (x : Line)
-        → eventOn size select D On (onWire x) u c m ≡ splitOf On (onWire x) (lineDeed (u .phase) x) u c m
+        → eventOn size names D On (onWire x) u c m ≡ splitOf On (onWire x) (lineDeed (u .phase) x) u c m
     unfolding eventOn lined
     line-split start = refl
     line-split stop = refl
     line-split (clock d) = clock-split (u .phase) d
 
-    pub split : (p : Power) (x : Happening) → eventOn size select D p x u c m ≡ splitOf p x (deedOf p (u .phase) x) u c
+    pub split : (p : Power) (x : Happening) → eventOn size names D p x u c m ≡ splitOf p x (deedOf p (u .phase) x) u c
         m
     unfolding eventOn deedOf
     split On (onWire x) = line-split x

@@ -13,7 +13,7 @@ use Rattle.wire.specs.declared.Side.the-variants.{Memory, Companion}
 use Rattle.wire.specs.declared.Phase.{Phase}
 use Rattle.wire.specs.declared.Phase.the-variants.{Idle, Slave, AddressHigh, AddressLow, Pointer, Write, Read}
 use Rattle.bus.specs.Desk.{Desks}
-use Rattle.bus.specs.Event.{Happening, onWire, beat, lost, gone, returned}
+use Rattle.bus.specs.Happening.{Happening, onWire, beat, lost, gone, returned}
 use Rattle.bus.specs.declared.Power.{Power}
 use Rattle.bus.specs.declared.Power.the-variants.{On, Backup, Off}
 use Rattle.deeds.specs.declared.Deed.{Deed}

@@ -5,7 +5,7 @@ ghost use mathlib.Core.Path.{_≡_};
 ghost use Prim.Native.Nat.{_≤_};
 ghost use mathlib.Core.Bool.{true, false};
 ghost use Rattle.wire.specs.Bits.{pushed, placeAt};
-ghost use Rattle.bus.specs.Event.{happening};
+ghost use Rattle.bus.specs.Happening.{happening, edges};
 ghost use Rattle.deeds.specs.Serve.{atLast, atEnds, clockDeed, deedOf};
 ghost use Rattle.deeds.specs.declared.Deed.the-variants.{Aim, Store};
 ghost use Rattle.bus.specs.declared.Power.the-variants.{On, Backup};
@@ -92,7 +92,7 @@ fn clock_asks(phase: Phase, high: bool) -> Deed
 // An event while main power is present.
 fn on_asks(phase: Phase, event: u8) -> Deed
     requires { ⌜ event ≤ 9 ⌝ }
-    ensures { λ r. ⌜ r ≡ deedOf On phase (happening event) ⌝ }
+    ensures { λ r. ⌜ r ≡ deedOf On phase (happening edges event) ⌝ }
 {
     match event {
         0 => Deed::Nothing,
@@ -111,7 +111,7 @@ fn on_asks(phase: Phase, event: u8) -> Deed
 // An event while backup alone is present.
 fn backup_asks(event: u8) -> Deed
     requires { ⌜ event ≤ 9 ⌝ }
-    ensures { λ r. ⌜ ((p : Phase) → r ≡ deedOf Backup p (happening event)) ⌝ }
+    ensures { λ r. ⌜ ((p : Phase) → r ≡ deedOf Backup p (happening edges event)) ⌝ }
 {
     match event {
         0 => Deed::Nothing,
@@ -130,7 +130,7 @@ fn backup_asks(event: u8) -> Deed
 // What an event asks of the companion.
 pub fn deed_of(bus: Bus, event: u8) -> Deed
     requires { ⌜ event ≤ 9 ⌝ }
-    ensures { λ r. ⌜ r ≡ deedOf (bus .power) (bus .phase) (happening event) ⌝ }
+    ensures { λ r. ⌜ r ≡ deedOf (bus .power) (bus .phase) (happening edges event) ⌝ }
 {
     let power = bus.power;
     let phase = bus.phase;

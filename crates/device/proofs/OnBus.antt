@@ -15,8 +15,9 @@ use Rattle.wire.specs.declared.Named.{Named}
 use Rattle.wire.specs.declared.Side.the-variants.{Memory, Companion}
 use Rattle.wire.specs.declared.Phase.{Phase}
 use Rattle.wire.specs.declared.Phase.the-variants.{Idle, Slave, AddressHigh, AddressLow, Pointer, Write, Read}
-use Rattle.bus.specs.Select.{lone}
+use Rattle.bus.specs.Select.{lone, slaveNamesFor}
 use Rattle.bus.specs.Desk.{partOf}
+use Rattle.bus.specs.Happening as part
 use Rattle.bus.specs.Event as bus
 use Rattle.bus.specs.declared.Beat.the-variants.{Second}
 use Rattle.bus.specs.declared.Power.{Power}
@@ -28,15 +29,15 @@ use Rattle.device.specs.OnBus.{companion30, busOf, doneWith}
 use Rattle.device.specs.declared.State.{State}
 
 -- what happens, as a bus has it
-abbrev pub onBus : Happening → bus.Happening
-onBus (onWire x) = bus.onWire x
-onBus second = bus.beat Second
-onBus lost = bus.lost
-onBus gone = bus.gone
-onBus returned = bus.returned
+abbrev pub onBus : Happening → part.Happening
+onBus (onWire x) = part.onWire x
+onBus second = part.beat Second
+onBus lost = part.lost
+onBus gone = part.gone
+onBus returned = part.returned
 
-pub happening-on-bus : (e : ℕ) → e ≤ 7 → bus.happening e ≡ onBus (happening e)
-unfolding bus.happening happening
+pub happening-on-bus : (e : ℕ) → e ≤ 7 → part.happening part.edges e ≡ onBus (happening e)
+unfolding part.happening happening
 happening-on-bus zero h = refl
 happening-on-bus (suc zero) h = refl
 happening-on-bus (suc (suc zero)) h = refl
@@ -50,7 +51,7 @@ happening-on-bus (suc (suc (suc (suc (suc (suc (suc (suc e)))))))) h = absurd (o
 module _ (s : State) (m : List ℕ) where
   clock-on-bus : (p : Phase) (d : Bool)
       → doneOf (clocked fm3130 p (lent m (s .address)) (s .companion) d)
-      ≡ doneWith (bus.doneOf memorySize lone companion30 (clocked (partOf memorySize lone companion30) p
+      ≡ doneWith (bus.doneOf memorySize (slaveNamesFor lone) companion30 (clocked (partOf memorySize (slaveNamesFor lone) companion30) p
       (lent m (s .address)) (s .companion) d))
   unfolding clocked
   clock-on-bus Idle d = refl
@@ -71,7 +72,7 @@ module _ (s : State) (m : List ℕ) where
   clock-on-bus (Read Companion k b) d = refl
 
   line-on-bus : (x : Line)
-      → eventOn On (onWire x) s m ≡ doneWith (bus.eventOn memorySize lone companion30 On (bus.onWire x) (busOf s)
+      → eventOn On (onWire x) s m ≡ doneWith (bus.eventOn memorySize (slaveNamesFor lone) companion30 On (part.onWire x) (busOf s)
       (s .companion) m)
   unfolding eventOn bus.eventOn lined
   line-on-bus start = refl
@@ -79,7 +80,7 @@ module _ (s : State) (m : List ℕ) where
   line-on-bus (clock d) = clock-on-bus (s .phase) d
 
   pub event-on-bus : (p : Power) (x : Happening) → s .power ≡ p
-      → eventOn p x s m ≡ doneWith (bus.eventOn memorySize lone companion30 p (onBus x) (busOf s) (s .companion) m)
+      → eventOn p x s m ≡ doneWith (bus.eventOn memorySize (slaveNamesFor lone) companion30 p (onBus x) (busOf s) (s .companion) m)
   unfolding eventOn bus.eventOn
   event-on-bus On (onWire x) q = line-on-bus x
   event-on-bus On second q = rw q refl
@@ -98,8 +99,9 @@ module _ (s : State) (m : List ℕ) where
   event-on-bus Off returned q = refl
 
 pub on-bus : (s : State) (m : List ℕ) (e : ℕ) → e ≤ 7
-    → eventOf s m e ≡ doneWith (bus.eventOf memorySize lone companion30 (busOf s) (s .companion) m e)
+    → eventOf s m e ≡ doneWith (bus.eventOn memorySize (slaveNamesFor lone) companion30 (s .power) (part.happening part.edges e)
+    (busOf s) (s .companion) m)
 on-bus s m e h =
     event-on-bus s m (s .power) (happening e) refl
-    ∙ ap (λ (x : bus.Happening). doneWith (bus.eventOn memorySize lone companion30 (s .power) x (busOf s)
+    ∙ ap (λ (x : part.Happening). doneWith (bus.eventOn memorySize (slaveNamesFor lone) companion30 (s .power) x (busOf s)
     (s .companion) m)) (sym (happening-on-bus e h))

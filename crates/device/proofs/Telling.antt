@@ -13,8 +13,8 @@ use Rattle.wire.specs.declared.Phase.{Phase}
 use Rattle.wire.specs.declared.Phase.the-variants.{Idle, Slave, AddressHigh, AddressLow, Pointer, Write, Read}
 use Rattle.calendar.specs.declared.Rolled.the-variants.{Nothing}
 use Rattle.companion.specs.Part.{guardOf}
-use Rattle.bus.specs.Select.{lone}
-use Rattle.bus.specs.Event as bus
+use Rattle.bus.specs.Select.{lone, slaveNamesFor}
+use Rattle.bus.specs.Happening as part
 use Rattle.deeds.specs.Serve.{atLast, atEnds, clockDeed, lineDeed, deedOf}
 use Rattle.bus.specs.Outcome.{left, wentOf}
 use Rattle.bus.specs.Outcome as bus-outcome
@@ -85,9 +85,9 @@ module _ (s : State) where
   said-on Off gone q = refl
   said-on Off returned q = refl
 
-  said : (e : ℕ) → e ≤ 7 → saidBy (deedOf (s .power) (s .phase) (bus.happening e)) (s .companion) ≡ rolledIn s e
+  said : (e : ℕ) → e ≤ 7 → saidBy (deedOf (s .power) (s .phase) (part.happening part.edges e)) (s .companion) ≡ rolledIn s e
   said e h =
-      ap (λ (x : bus.Happening). saidBy (deedOf (s .power) (s .phase) x) (s .companion)) (happening-on-bus e h)
+      ap (λ (x : part.Happening). saidBy (deedOf (s .power) (s .phase) x) (s .companion)) (happening-on-bus e h)
       ∙ said-on (s .power) (happening e) refl
 
 -- what the bus asks before it does an event
@@ -95,23 +95,23 @@ pub bus-ready : (s : State) (m : List ℕ) (u : Bus) → u ≡ busOf s → Ready
 bus-ready s m u h r = rw h (record { memory = r .memory; address = r .address })
 
 pub told : (s : State) (m m′ : List ℕ) (e g a : ℕ) (u : Bus) (q : Deed) (v : Served) (w : Went) (s′ : State) → e ≤ 7
-    → u ≡ busOf s → g ≡ guardOf (s .companion) → q ≡ deedOf (u .power) (u .phase) (bus.happening e)
-    → v ≡ servedBy q (s .companion) → left w m′ ≡ wentOf memorySize lone g (v .reply) u m e
+    → u ≡ busOf s → g ≡ guardOf (s .companion) → q ≡ deedOf (u .power) (u .phase) (part.happening part.edges e)
+    → v ≡ servedBy q (s .companion) → left w m′ ≡ wentOf memorySize (slaveNamesFor lone) g (v .reply) u m e
     → s′ ≡ stateWith (w .bus) (v .companion) → a ≡ answerByte s′ (w .line)
     → ToldWith (record { state = s′; answer = a; rolled = v .rolled }) m′ (eventOf s m e) (rolledIn s e)
 told s m m′ e g a u q v w s′ h hu hg hq hv hw hs ha =
     let c = s .companion in
-    let q₀ = deedOf (s .power) (s .phase) (bus.happening e) in
-    let q′ : q ≡ q₀ = hq ∙ ap (λ (u : Bus). deedOf (u .power) (u .phase) (bus.happening e)) hu in
+    let q₀ = deedOf (s .power) (s .phase) (part.happening part.edges e) in
+    let q′ : q ≡ q₀ = hq ∙ ap (λ (u : Bus). deedOf (u .power) (u .phase) (part.happening part.edges e)) hu in
     let v′ : v ≡ servedBy q₀ c = hv ∙ ap (λ (q : Deed). servedBy q c) q′ in
-    let moved : wentOf memorySize lone g (v .reply) u m e
-    ≡ wentOf memorySize lone (guardOf c) (servedBy q₀ c .reply) (busOf s) m e =
-    λ i. wentOf memorySize lone (hg i) (v′ i .reply) (hu i) m e in
+    let moved : wentOf memorySize (slaveNamesFor lone) g (v .reply) u m e
+    ≡ wentOf memorySize (slaveNamesFor lone) (guardOf c) (servedBy q₀ c .reply) (busOf s) m e =
+    λ i. wentOf memorySize (slaveNamesFor lone) (hg i) (v′ i .reply) (hu i) m e in
     let w′ = hw ∙ moved in
     let s″ = hs ∙ (λ i. stateWith (w′ i .went .bus) (v′ i .companion)) in
     let a′ = ha ∙ (λ i. answerByte (s″ i) (w′ i .went .line)) in
     let r′ = ap (λ (v : Served). v .rolled) v′ ∙ said s e h in
-    rw (on-bus s m e h, split memorySize lone companion30 (busOf s) c m (s .power) (bus.happening e))
+    rw (on-bus s m e h, split memorySize (slaveNamesFor lone) companion30 (busOf s) c m (s .power) (part.happening part.edges e))
     (record {
       result = λ i. record { state = s″ i; answer = a′ i; rolled = r′ i };
       memory = λ i. w′ i .memory;

@@ -11,7 +11,7 @@ use native.Mathlib.Omega.{arith}
 use lib.ListN.{length}
 use Rattle.wire.specs.Limits.{phaseWithin}
 use Rattle.wire.specs.declared.Phase.the-variants.{Idle}
-use Rattle.bus.specs.Select.{lone}
+use Rattle.bus.specs.Select.{lone, slaveNamesFor}
 use Rattle.bus.specs.Event as bus
 use Rattle.bounds.specs.Limits.{powerWithin}
 use Rattle.bus.specs.declared.Power.{Power}
@@ -56,10 +56,10 @@ pub event-ok : (s : State) (m : List ℕ) (e : ℕ) → wellFormed s ≡ true �
 unfolding keeps
 event-ok s m e w h =
     let l = limits-of s w in
-    let d : bus.Done memorySize lone companion30 =
-    bus.eventOn memorySize lone companion30 (s .power) (onBus (happening e)) (busOf s) (s .companion) m in
-    let k : Keeps.DoneOk memorySize lone 0 LAST (omega arith) companion30 keeps d =
-    event-keeps memorySize lone 0 LAST (omega arith) companion30 keeps (busOf s) (s .companion) m
+    let d : bus.Done memorySize (slaveNamesFor lone) companion30 =
+    bus.eventOn memorySize (slaveNamesFor lone) companion30 (s .power) (onBus (happening e)) (busOf s) (s .companion) m in
+    let k : Keeps.DoneOk memorySize (slaveNamesFor lone) 0 LAST (omega arith) companion30 keeps d =
+    event-keeps memorySize (slaveNamesFor lone) 0 LAST (omega arith) companion30 keeps (busOf s) (s .companion) m
     (record { address = l .address; phase = lone-phase (s .phase) ∙ l .phase; power = l .power }) (l .companion) h
     (s .power) (onBus (happening e)) in
     rw (event-on-bus s m (s .power) (happening e) refl)

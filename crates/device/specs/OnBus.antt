@@ -9,10 +9,12 @@
 use Prim.Native.Nat.{ℕ}
 use Rattle.calendar.specs.declared.Rolled.{Rolled}
 use Rattle.calendar.specs.declared.Rolled.the-variants as rolled
-use Rattle.bus.specs.Select.{lone}
+use Rattle.bus.specs.Select.{lone, slaveNamesFor}
 use Rattle.bus.specs.Desk.{Desks}
+use Rattle.bus.specs.Happening.{returned}
 use Rattle.bus.specs.Event as bus
 use Rattle.deeds.specs.Serve as Serve
+use Rattle.bus.specs.declared.Beat.the-variants.{Second}
 use Rattle.bus.specs.declared.Bus.{Bus}
 use Rattle.deeds.specs.declared.Deed.{Deed}
 use Rattle.deeds.specs.declared.Deed.the-variants.{Nothing, Aim, Store, Load, Loaded, Beat, Backed, Lost, Returned}
@@ -31,9 +33,12 @@ companion30 =
       store = stores;
       load = loadOf;
       loaded = loadedOf;
+      beyond = λ e. returned;
+      Tick = Unit {0};
+      beatOf = λ t. Second;
       ticked = λ t c. tickOf c;
       guard = guardOf;
-      pin = pinOf;
+      pin = λ p c. pinOf c;
       backed = backedOf;
       lost = λ c. lostOf;
       returned = returnedOf;
@@ -45,7 +50,7 @@ busOf s = record { power = s .power; phase = s .phase; address = s .address }
 abbrev pub stateWith : Bus → Companion → State
 stateWith u c = record { power = u .power; phase = u .phase; address = u .address; companion = c }
 
-abbrev pub doneWith : bus.Done memorySize lone companion30 → Done
+abbrev pub doneWith : bus.Done memorySize (slaveNamesFor lone) companion30 → Done
 doneWith d = record { state = stateWith (d .bus) (d .companion); memory = d .memory; line = d .line }
 
 -- A tick says a field; nothing else that is asked does.

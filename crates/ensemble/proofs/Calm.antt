@@ -19,7 +19,8 @@ use Rattle.wire.proofs.Tests.{by-test}
 use Rattle.counters.specs.declared.Counters.{Counters}
 use Rattle.bus.specs.Select.{slaveNamesFor}
 use Rattle.bus.specs.Desk.{partOf}
-use Rattle.bus.specs.Event.{Happening, onWire, beat, lost, gone, returned, happening, eventOn}
+use Rattle.bus.specs.Happening.{Happening, onWire, beat, lost, gone, returned, happening, edges}
+use Rattle.bus.specs.Event.{eventOn}
 use Rattle.bus.specs.declared.Beat.{Beat}
 use Rattle.bus.specs.declared.Beat.the-variants.{Cnt1, Cnt2}
 use Rattle.bus.specs.declared.Bus.{Bus}
@@ -53,10 +54,10 @@ module _ (y z : ℕ) (a b : ℕ) (never : (x : Side) (n : ℕ) → MayName (to x
     (slaveNamesFor b n)) where
   next-clear : (p q : Power) (h : Happening) (u r : Bus) (c d : Counters) (m n : List ℕ) → Clear (u .phase) (r .phase)
       → OffIdle p (u .phase) → OffIdle q (r .phase)
-      → Clear (eventOn y a companion31 p h u c m .bus .phase) (eventOn z b companion31 q h r d n .bus .phase)
+      → Clear (eventOn y (slaveNamesFor a) companion31 p h u c m .bus .phase) (eventOn z (slaveNamesFor b) companion31 q h r d n .bus .phase)
   unfolding eventOn
   next-clear On On (onWire x) u r c d m n k o w =
-      line-clear (partOf y a companion31) (partOf z b companion31) never (u .phase) (r .phase) (lent m (u .address)) c
+      line-clear (partOf y (slaveNamesFor a) companion31) (partOf z (slaveNamesFor b) companion31) never (u .phase) (r .phase) (lent m (u .address)) c
       (lent n (r .address)) d x k
   next-clear On Backup (onWire x) u r c d m n k o w = clear-that _ _ w
   next-clear On Off (onWire x) u r c d m n k o w = clear-that _ _ w
@@ -97,7 +98,7 @@ module _ (y a : ℕ) where
   same-off u p e o = subst (λ (w : Power). OffIdle w (u .phase)) (sym e) o
 
   off-next : (p : Power) (h : Happening) (u : Bus) (c : Counters) (m : List ℕ) → u .power ≡ p → OffIdle p (u .phase)
-      → OffIdle (eventOn y a companion31 p h u c m .bus .power) (eventOn y a companion31 p h u c m .bus .phase)
+      → OffIdle (eventOn y (slaveNamesFor a) companion31 p h u c m .bus .power) (eventOn y (slaveNamesFor a) companion31 p h u c m .bus .phase)
   unfolding eventOn
   off-next On (onWire x) u c m e o = tt
   off-next On (beat t) u c m e o = same-off u On e o
@@ -115,7 +116,7 @@ module _ (y a : ℕ) where
   off-next Off gone u c m e o = same-off u Off e o
   off-next Off returned u c m e o = tt
 
-  beat-keeps : (p : Power) (t : Beat) (u : Bus) (c : Counters) (m : List ℕ) → eventOn y a companion31 p (beat t) u c m
+  beat-keeps : (p : Power) (t : Beat) (u : Bus) (c : Counters) (m : List ℕ) → eventOn y (slaveNamesFor a) companion31 p (beat t) u c m
       .bus ≡ u
   unfolding eventOn
   beat-keeps On t u c m = refl
@@ -130,7 +131,7 @@ beat-of : (b : Bool) → cond b (beat Cnt1) (beat Cnt2) ≡ beat (cond b Cnt1 Cn
 beat-of true = refl
 beat-of false = refl
 
-edge-is : (n : ℕ) → 8 ≤ n → happening n ≡ beat (cond (eqb n 8) Cnt1 Cnt2)
+edge-is : (n : ℕ) → 8 ≤ n → happening edges n ≡ beat (cond (eqb n 8) Cnt1 Cnt2)
 unfolding happening
 edge-is n h =
     rw (
@@ -147,7 +148,7 @@ edge-is n h =
 edge-keeps : (h : Held) (n : ℕ) → 8 ≤ n → busIn (afterOwn h n) ≡ busIn h
 edge-keeps h n g =
     let s = h .member .state in
-    ap (λ (x : Happening). eventOn (sizeIn h) (selectIn h) companion31 (s .bus .power) x (s .bus) (s .counters) (h
+    ap (λ (x : Happening). eventOn (sizeIn h) (slaveNamesFor (selectIn h)) companion31 (s .bus .power) x (s .bus) (s .counters) (h
     .memory) .bus) (edge-is n g)
     ∙ beat-keeps (sizeIn h) (selectIn h) (s .bus .power) _ (s .bus) (s .counters) (h .memory)
 
@@ -190,7 +191,7 @@ never-both h k d x n m =
 off-own : (h : Held) (e : ℕ) → Off-in h → Off-in (afterOwn h e)
 off-own h e o =
     let s = h .member .state in
-    off-next (sizeIn h) (selectIn h) (s .bus .power) (happening e) (s .bus) (s .counters) (h .memory) refl o
+    off-next (sizeIn h) (selectIn h) (s .bus .power) (happening edges e) (s .bus) (s .counters) (h .memory) refl o
 
 calm-own : (h k : Held) (e : ℕ) → Calm h k → Calm (afterOwn h e) (afterOwn k e)
 calm-own h k e c =
@@ -200,7 +201,7 @@ calm-own h k e c =
       unlike = c .unlike;
       clear =
           next-clear (sizeIn h) (sizeIn k) (selectIn h) (selectIn k) (never-both h k (c .unlike)) (s .bus .power)
-          (r .bus .power) (happening e) (s .bus) (r .bus) (s .counters) (r .counters) (h .memory) (k .memory) (c .clear)
+          (r .bus .power) (happening edges e) (s .bus) (r .bus) (s .counters) (r .counters) (h .memory) (k .memory) (c .clear)
           (c .this-off) (c .that-off);
       this-off = off-own h e (c .this-off);
       that-off = off-own k e (c .that-off);

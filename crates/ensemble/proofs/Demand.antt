@@ -15,7 +15,8 @@ use Rattle.wire.specs.declared.Named.{Named}
 use Rattle.wire.specs.declared.Named.the-variants.{Nobody, Reads, Writes}
 use Rattle.counters.specs.Part.{guardOf}
 use Rattle.bus.specs.Select.{slaveNamesFor}
-use Rattle.bus.specs.Event.{happening, beat, Done, doneOf, eventOn}
+use Rattle.bus.specs.Happening.{happening, beat}
+use Rattle.bus.specs.Event.{Done, doneOf, eventOn}
 use Rattle.bus.specs.declared.Beat.{Beat}
 use Rattle.bus.specs.declared.Beat.the-variants.{Second, Cnt1, Cnt2}
 use Rattle.bus.specs.declared.Power.{Power}
@@ -217,7 +218,7 @@ tock-after n p h (edge-two w) e = rw (edge-heard-two n p w, e, edge-own-two w) (
 
 -- a tick or edge leaves the line high, under any supply
 on-beat : (h : Held) (t : Beat) (w : Power)
-    → eventOn (sizeIn h) (selectIn h) companion31 w (beat t) (h .member .state .bus) (h .member .state .counters)
+    → eventOn (sizeIn h) (slaveNamesFor (selectIn h)) companion31 w (beat t) (h .member .state .bus) (h .member .state .counters)
     (h .memory) .line ≡ true
 unfolding eventOn
 on-beat h t On = refl
@@ -268,16 +269,16 @@ module _ (t₀ : Together) where
       (u .memory .bytes)
 
   own-event : (p : Place) (u : S p) (e : Event Beat)
-      → doneIn (heldM p u) (ownByteOf e) ≡ doneOf (sizeIn (at p t₀)) (selectIn (at p t₀)) companion31 (step (partAt
+      → doneIn (heldM p u) (ownByteOf e) ≡ doneOf (sizeIn (at p t₀)) (slaveNamesFor (selectIn (at p t₀))) companion31 (step (partAt
       t₀ p) u e)
   unfolding happening eventOn
-  own-event p u (line x) = line-event (sizeIn (at p t₀)) (selectIn (at p t₀)) companion31 (u .phase) (u
+  own-event p u (line x) = line-event (sizeIn (at p t₀)) (slaveNamesFor (selectIn (at p t₀))) companion31 (u .phase) (u
       .memory .address) (u .companion) (u .memory .bytes) x
   own-event p u (tick Second) = refl
   own-event p u (tick Cnt1) = refl
   own-event p u (tick Cnt2) = refl
 
-  abbrev leftM : (p : Place) → Done (sizeIn (at p t₀)) (selectIn (at p t₀)) companion31 → Held
+  abbrev leftM : (p : Place) → Done (sizeIn (at p t₀)) (slaveNamesFor (selectIn (at p t₀))) companion31 → Held
   leftM p d = held (record { size = at p t₀ .member .size; select = at p t₀ .member .select; state = stateOf d })
       (d .memory)
 

@@ -16,7 +16,8 @@ use Rattle.wire.specs.Memory.{putByte}
 use Rattle.wire.specs.Machine.{clock, Event, line, tick, clocked, lined}
 use Rattle.wire.proofs.Tests.{and-split}
 use Rattle.bus.specs.Select.{slaveNamesFor}
-use Rattle.bus.specs.Event.{happening, eventOn}
+use Rattle.bus.specs.Happening.{happening}
+use Rattle.bus.specs.Event.{eventOn}
 use Rattle.bus.specs.declared.Beat.{Beat}
 use Rattle.bus.specs.declared.Power.the-variants as power
 use Rattle.counters.specs.Edge.{edgeOf, nextCount}

@@ -12,7 +12,8 @@ use Rattle.wire.specs.declared.Side.{Side}
 use Rattle.counters.specs.declared.Counters.{Counters}
 use Rattle.bus.specs.Select.{slaveNamesFor}
 use Rattle.bus.specs.Desk.{partOf}
-use Rattle.bus.specs.Event.{Happening, onWire, happening, eventOn}
+use Rattle.bus.specs.Happening.{Happening, onWire, happening, edges}
+use Rattle.bus.specs.Event.{eventOn}
 use Rattle.bus.specs.declared.Bus.{Bus}
 use Rattle.bus.specs.declared.Power.{Power}
 use Rattle.bus.specs.declared.Power.the-variants.{On, Backup, Off}
@@ -29,18 +30,18 @@ use Rattle.ensemble.proofs.Stand.{calm-of}
 module _ (y z : ℕ) (a b : ℕ) (never : (x : Side) (n : ℕ) → MayName (to x) (slaveNamesFor a n) → MayName foreign
     (slaveNamesFor b n)) where
   one-line : (p q : Power) (x : Line) (u r : Bus) (c d : Counters) (m n : List ℕ) → Clear (u .phase) (r .phase)
-      → (eventOn y a companion31 p (onWire x) u c m .line ≡ mastersLine x → ⊥)
-      → eventOn z b companion31 q (onWire x) r d n .line ≡ mastersLine x
+      → (eventOn y (slaveNamesFor a) companion31 p (onWire x) u c m .line ≡ mastersLine x → ⊥)
+      → eventOn z (slaveNamesFor b) companion31 q (onWire x) r d n .line ≡ mastersLine x
   unfolding eventOn
   one-line On On x u r c d m n k h =
-      line-one (partOf y a companion31) (partOf z b companion31) never (u .phase) (r .phase) (lent m (u .address)) c
+      line-one (partOf y (slaveNamesFor a) companion31) (partOf z (slaveNamesFor b) companion31) never (u .phase) (r .phase) (lent m (u .address)) c
       (lent n (r .address)) d x k h
   one-line On Backup x u r c d m n k h = refl
   one-line On Off x u r c d m n k h = refl
   one-line Backup q x u r c d m n k h = absurd (h refl)
   one-line Off q x u r c d m n k h = absurd (h refl)
 
-line-is : (x : Line) → happening (lineByte x) ≡ onWire x
+line-is : (x : Line) → happening edges (lineByte x) ≡ onWire x
 unfolding happening
 line-is start = refl
 line-is stop = refl
@@ -48,10 +49,10 @@ line-is (clock false) = refl
 line-is (clock true) = refl
 
 line-of : (h : Held) (x : Line) → doneIn h (lineByte x) .line
-    ≡ eventOn (sizeIn h) (selectIn h) companion31 (busIn h .power) (onWire x) (busIn h) (h .member .state .counters) (h
+    ≡ eventOn (sizeIn h) (slaveNamesFor (selectIn h)) companion31 (busIn h .power) (onWire x) (busIn h) (h .member .state .counters) (h
     .memory) .line
 line-of h x =
-    ap (λ (z : Happening). eventOn (sizeIn h) (selectIn h) companion31 (busIn h .power) z (busIn h) (h .member .state
+    ap (λ (z : Happening). eventOn (sizeIn h) (slaveNamesFor (selectIn h)) companion31 (busIn h .power) z (busIn h) (h .member .state
     .counters) (h .memory) .line) (line-is x)
 
 pub one-pulls : OnePulls

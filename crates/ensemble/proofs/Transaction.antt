@@ -16,7 +16,8 @@ use Rattle.wire.specs.declared.Phase.{Phase}
 use Rattle.wire.specs.declared.Phase.the-variants.{Idle}
 use Rattle.bus.specs.Select.{selectOf, slaveNamesFor}
 use Rattle.bus.specs.Desk.{Desks, partOf}
-use Rattle.bus.specs.Event.{happening, Done, done, doneOf, eventOn, eventOf}
+use Rattle.bus.specs.Happening.{happening}
+use Rattle.bus.specs.Event.{Done, done, doneOf, eventOn, eventOf}
 use Rattle.bus.specs.declared.Bus.{Bus}
 use Rattle.bus.specs.declared.Power.{Power}
 use Rattle.bus.specs.declared.Power.the-variants.{On, Backup, Off}
@@ -50,16 +51,16 @@ other-names own other b d h =
     rw (ne-eqb (selectOf b) other (λ f. d (sym e ∙ f)))
 
 -- one event of others' transactions, on a part with main power: the phase alone moves, and the line is the master's
-module _ (size select : ℕ) (D : Desks) where
+module _ (size : ℕ) (names : ℕ → Named) (D : Desks) where
   abbrev pub P : Parts
-  P = partOf size select D
+  P = partOf size names D
 
   abbrev pub nextPhase : Phase → ℕ → D .Desk → List ℕ → Line → Phase
   nextPhase p a c m x = lined P p (lent m a) c x .state .phase
 
   pub line-event : (p : Phase) (a : ℕ) (c : D .Desk) (m : List ℕ) (x : Line)
-      → eventOf size select D (record { power = On; phase = p; address = a }) c m (lineByte x)
-      ≡ doneOf size select D (lined P p (lent m a) c x)
+      → eventOf size names D (record { power = On; phase = p; address = a }) c m (lineByte x)
+      ≡ doneOf size names D (lined P p (lent m a) c x)
   unfolding happening eventOn
   line-event p a c m start = refl
   line-event p a c m stop = refl
@@ -68,13 +69,13 @@ module _ (size select : ℕ) (D : Desks) where
 
   foreign-event : (q : Reader) (p : Phase) (a : ℕ) (c : D .Desk) (m : List ℕ) (x : Line) → MayStand (Byte P foreign)
       q x → Stands P foreign q p
-      → eventOf size select D (record { power = On; phase = p; address = a }) c m (lineByte x)
-      ≡ done size select D (record { power = On; phase = nextPhase p a c m x; address = a }) c m (mastersLine x)
+      → eventOf size names D (record { power = On; phase = p; address = a }) c m (lineByte x)
+      ≡ done size names D (record { power = On; phase = nextPhase p a c m x; address = a }) c m (mastersLine x)
   foreign-event q p a c m x w s =
-      line-event p a c m x ∙ ap (doneOf size select D) (foreign-own P (lent m a) c q p x w s)
+      line-event p a c m x ∙ ap (doneOf size names D) (foreign-own P (lent m a) c q p x w s)
 
   backup-event : (u : Bus) (c : D .Desk) (m : List ℕ) (x : Line) → u .power ≡ Backup
-      → eventOf size select D u c m (lineByte x) ≡ done size select D u c m (mastersLine x)
+      → eventOf size names D u c m (lineByte x) ≡ done size names D u c m (mastersLine x)
   unfolding happening eventOn
   backup-event u c m start e = rw e refl
   backup-event u c m stop e = rw e refl
@@ -82,7 +83,7 @@ module _ (size select : ℕ) (D : Desks) where
   backup-event u c m (clock true) e = rw e refl
 
   off-event : (u : Bus) (c : D .Desk) (m : List ℕ) (x : Line) → u .power ≡ Off
-      → eventOf size select D u c m (lineByte x) ≡ done size select D u c m (mastersLine x)
+      → eventOf size names D u c m (lineByte x) ≡ done size names D u c m (mastersLine x)
   unfolding happening eventOn
   off-event u c m start e = rw e refl
   off-event u c m stop e = rw e refl
@@ -96,7 +97,7 @@ abbrev pub phaseIn : Held → Phase
 phaseIn h = h .member .state .bus .phase
 
 abbrev pub partIn : Held → Parts
-partIn h = partOf (sizeIn h) (selectIn h) companion31
+partIn h = partOf (sizeIn h) (slaveNamesFor (selectIn h)) companion31
 
 -- a powered device in another phase
 abbrev pub phased : Held → Phase → Held
@@ -126,7 +127,7 @@ phased-is h p e f =
     })
     (h .memory)
 
-abbrev pub left : (h : Held) → Done (sizeIn h) (selectIn h) companion31 → Held
+abbrev pub left : (h : Held) → Done (sizeIn h) (slaveNamesFor (selectIn h)) companion31 → Held
 left h d = held (record { size = h .member .size; select = h .member .select; state = stateOf d }) (d .memory)
 
 -- where a device stands in others' transactions: as it was, but for its phase
@@ -152,8 +153,8 @@ rests-next On h k q x e m r =
     let p = r .0 in
     let c = h .member .state .counters in
     let a = h .member .state .bus .address in
-    let o = foreign-event (sizeIn h) (selectIn h) companion31 q p a c (h .memory) x m (r .2) in
-    let p′ = nextPhase (sizeIn h) (selectIn h) companion31 p a c (h .memory) x in (
+    let o = foreign-event (sizeIn h) (slaveNamesFor (selectIn h)) companion31 q p a c (h .memory) x m (r .2) in
+    let p′ = nextPhase (sizeIn h) (slaveNamesFor (selectIn h)) companion31 p a c (h .memory) x in (
       (
         p′,
         ap (λ (z : Held). afterOwn z (lineByte x)) (r .1) ∙ ap (left h) o,
@@ -162,14 +163,14 @@ rests-next On h k q x e m r =
       ap (λ (z : Held). doneIn z (lineByte x) .line) (r .1) ∙ ap (λ d. d .line) o,
     )
 rests-next Backup h k q x e m r =
-    let o = backup-event (sizeIn h) (selectIn h) companion31 (h .member .state .bus) (h .member .state .counters)
+    let o = backup-event (sizeIn h) (slaveNamesFor (selectIn h)) companion31 (h .member .state .bus) (h .member .state .counters)
     (h .memory) x e in (
       ap (λ (z : Held). afterOwn z (lineByte x)) r ∙ ap (left h) o,
       ap (λ (z : Held). doneIn z (lineByte x) .line) r
           ∙ ap (λ d. d .line) o,
     )
 rests-next Off h k q x e m r =
-    let o = off-event (sizeIn h) (selectIn h) companion31 (h .member .state .bus) (h .member .state .counters)
+    let o = off-event (sizeIn h) (slaveNamesFor (selectIn h)) companion31 (h .member .state .bus) (h .member .state .counters)
     (h .memory) x e in (
       ap (λ (z : Held). afterOwn z (lineByte x)) r ∙ ap (left h) o,
       ap (λ (z : Held). doneIn z (lineByte x) .line) r
@@ -183,15 +184,15 @@ line-below-in On h x e t =
     let p = phaseIn h in
     let c = h .member .state .counters in
     let a = h .member .state .bus .address in
-    let o = line-event (sizeIn h) (selectIn h) companion31 p a c (h .memory) x in
+    let o = line-event (sizeIn h) (slaveNamesFor (selectIn h)) companion31 p a c (h .memory) x in
     let k : phased h p ≡ h = phased-is h p e refl in
     line-below (partIn h) p (lent (h .memory) a) c x
     (sym (ap (λ d. d .line) o) ∙ (ap (λ (z : Held). doneIn z (lineByte x) .line) k ∙ t))
 line-below-in Backup h x e t =
-    sym (ap (λ d. d .line) (backup-event (sizeIn h) (selectIn h) companion31 (h .member .state .bus) (h
+    sym (ap (λ d. d .line) (backup-event (sizeIn h) (slaveNamesFor (selectIn h)) companion31 (h .member .state .bus) (h
     .member .state .counters) (h .memory) x e)) ∙ t
 line-below-in Off h x e t =
-    sym (ap (λ d. d .line) (off-event (sizeIn h) (selectIn h) companion31 (h .member .state .bus) (h .member
+    sym (ap (λ d. d .line) (off-event (sizeIn h) (slaveNamesFor (selectIn h)) companion31 (h .member .state .bus) (h .member
     .state .counters) (h .memory) x e)) ∙ t
 
 -- others' whole transactions leave a device as it was

@@ -31,6 +31,7 @@ use Rattle.set31.specs.Set.{Held, Together, Place, first, second, third, fourth
 use Rattle.set31.specs.Set.{afterOwn, afterEvents, linesTo}
 use Rattle.ensemble.specs.Alone.{alone, aloneLines, countersIn}
 use Rattle.ensemble.specs.Transaction.{lineByte, samePlace, Between, Unlike}
+use Rattle.bus.specs.Select.{slaveNamesFor}
 
 -- Auxiliary: what a test says, as a type.
 abbrev pub Told : Bool → Type 0
@@ -76,7 +77,7 @@ allOf n f =
     && among (ltb 3 n) (λ h. f (record { place = fourth; here = h }))))
 
 abbrev pub partAt : Together → Place → Parts
-partAt t v = partOf (sizeIn (at v t)) (selectIn (at v t)) companion31
+partAt t v = partOf (sizeIn (at v t)) (slaveNamesFor (selectIn (at v t))) companion31
 
 abbrev pub bench : Together → Bench
 bench t =

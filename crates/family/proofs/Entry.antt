@@ -17,7 +17,7 @@ use Rattle.counters.specs.declared.Counters.{Counters}
 use Rattle.counters.specs.Map.{FIRST, LAST}
 use Rattle.counters.proofs.Within.{within-facts, aim-acknowledged, aim-within, store-within, loaded-within}
 use Rattle.counters.proofs.Within.{edge-within, backed-within, lost-within, returned-within, blank-within}
-use Rattle.bus.specs.Event.{happening}
+use Rattle.bus.specs.Happening.{happening, edges}
 use Rattle.bounds.specs.Limits.{powerWithin, busWithin}
 use Rattle.bus.specs.declared.Beat.{Beat}
 use Rattle.bus.specs.declared.Beat.the-variants.{Second, Cnt1, Cnt2}
@@ -31,9 +31,10 @@ use Rattle.family.specs.declared.Size.{Size}
 use Rattle.family.specs.declared.Size.the-variants.{Kb64, Kb256}
 use Rattle.family.specs.declared.State.{State}
 use Rattle.family.specs.declared.Stepped.{Stepped}
+use Rattle.bus.specs.Select.{slaveNamesFor}
 
 pub record Limits (size select : ℕ) (s : State) : Type 0 where
-  pub bus : BusLimits size select FIRST LAST (s .bus)
+  pub bus : BusLimits size (slaveNamesFor select) FIRST LAST (s .bus)
   pub counters : isWithin (s .counters) ≡ true
 
 pub limits-of : (size select : ℕ) (s : State) → wellFormed size select s ≡ true → Limits size select s
@@ -111,10 +112,10 @@ pub event-ok : (size select : ℕ) → 0 < size → (s : State) (m : List ℕ) (
 unfolding keeps
 event-ok size select z s m e w h =
     let l = limits-of size select s w in
-    let k : DoneOk size select FIRST LAST z companion31 keeps (eventOf size select s m e) =
-    event-keeps size select FIRST LAST z companion31 keeps (s .bus) (s .counters) m (l .bus) (l .counters) h (s
+    let k : DoneOk size (slaveNamesFor select) FIRST LAST z companion31 keeps (eventOf size select s m e) =
+    event-keeps size (slaveNamesFor select) FIRST LAST z companion31 keeps (s .bus) (s .counters) m (l .bus) (l .counters) h (s
     .bus .power)
-    (happening e) in
+    (happening edges e) in
     record { state = of-limits size select _ (record { bus = k .bus; counters = k .companion }); memory = k .memory }
 
 pub size-positive : (k : Size) → 0 < sizeOf k

@@ -9,7 +9,7 @@ use Rattle.counters.specs.Lock.{Locked, SerialKept}
 use Rattle.counters.specs.declared.Counters.{Counters}
 use Rattle.counters.proofs.Lock.{aim-keeps, store-keeps, loaded-keeps, edge-keeps}
 use Rattle.counters.proofs.Lock.{backed-keeps, lost-keeps, returned-keeps}
-use Rattle.bus.specs.Event.{happening}
+use Rattle.bus.specs.Happening.{happening, edges}
 use Rattle.bus.specs.declared.Beat.{Beat}
 use Rattle.bus.specs.declared.Beat.the-variants.{Second, Cnt1, Cnt2}
 use Rattle.deeds.proofs.Served.{AllLeave, event-leaves}
@@ -18,6 +18,7 @@ use Rattle.family.specs.Step.{stateOf}
 use Rattle.family.specs.Run.{runOf}
 use Rattle.family.specs.Lock.{SerialLocked}
 use Rattle.family.specs.declared.State.{State}
+use Rattle.bus.specs.Select.{slaveNamesFor}
 
 module _ (c : Counters) (h : Locked c) where
   beaten-keeps : (t : Beat) → SerialKept c (beaten t c)
@@ -41,8 +42,8 @@ module _ (c : Counters) (h : Locked c) where
 pub event-keeps-serial : (size select : ℕ) (s : State) (m : List ℕ) (e : ℕ) → Locked (s .counters)
     → SerialKept (s .counters) (eventOf size select s m e .companion)
 event-keeps-serial size select s m e l =
-    event-leaves companion31 (SerialKept (s .counters)) (s .counters) (all-keep (s .counters) l) size select (s .bus) m
-    (s .bus .power) (happening e)
+    event-leaves companion31 (SerialKept (s .counters)) (s .counters) (all-keep (s .counters) l) size (slaveNamesFor select) (s .bus) m
+    (s .bus .power) (happening edges e)
 
 chained : (b c d : Counters) → SerialKept b c → SerialKept c d → SerialKept b d
 chained b c d p q = record { locked = q .locked; serial = q .serial ∙ p .serial }

@@ -16,6 +16,8 @@ use Rattle.counters.specs.declared.Counters.{Counters}
 use Rattle.counters.specs.declared.Taken.{Taken}
 use Rattle.counters.specs.declared.Input.the-variants as input
 use Rattle.bus.specs.Desk.{Desks}
+use Rattle.bus.specs.Select.{slaveNamesFor}
+use Rattle.bus.specs.Happening.{edges}
 use Rattle.bus.specs.Event.{resting}
 use Rattle.bus.specs.Event as Event
 use Rattle.bus.specs.declared.Beat.{Beat}
@@ -53,9 +55,12 @@ companion31 =
       store = λ c b. takenOf (storeOf c b);
       load = loadOf;
       loaded = loadedOf;
+      beyond = edges;
+      Tick = Beat;
+      beatOf = λ t. t;
       ticked = beaten;
       guard = guardOf;
-      pin = λ c. 0;
+      pin = λ p c. 0;
       backed = backedOf;
       lost = lostOf;
       returned = returnedOf;
@@ -63,10 +68,10 @@ companion31 =
 
 -- One event on a state and the lent memory.
 abbrev pub Done : ℕ → ℕ → Type 0
-Done size select = Event.Done size select companion31
+Done size select = Event.Done size (slaveNamesFor select) companion31
 
 abbrev pub eventOf : (size select : ℕ) → State → List ℕ → ℕ → Done size select
-eventOf size select s m e = Event.eventOf size select companion31 (s .bus) (s .counters) m e
+eventOf size select s m e = Event.eventOf size (slaveNamesFor select) companion31 (s .bus) (s .counters) m e
 
 -- "The companion address starts at 09h"; "a fresh device has 0 elsewhere".
 abbrev pub fresh : State

@@ -5,7 +5,9 @@
 -- Assumes nothing.
 use Prim.Native.Nat.{ℕ}
 use mathlib.Core.List.{List, [], _∷_, _++_}
-use Rattle.family.specs.Chip.{Done, eventOf}
+use Rattle.wire.specs.declared.Named.{Named}
+use Rattle.bus.specs.Event as Event
+use Rattle.family.specs.Chip.{companion31, eventOf}
 use Rattle.family.specs.Step.{stateOf, answerByte}
 use Rattle.family.specs.declared.State.{State}
 
@@ -20,7 +22,7 @@ abbrev pub following : List ℕ → Ended → Ended
 following before r = record { state = r .state; memory = r .memory; answers = before ++ r .answers }
 
 -- Auxiliary: the answer to an event.
-abbrev pub answerTo : {size select : ℕ} → Done size select → ℕ
+abbrev pub answerTo : {size : ℕ} {names : ℕ → Named} → Event.Done size names companion31 → ℕ
 answerTo d = answerByte (d .line)
 
 -- The events one by one, each on the state and the memory that the one before it left.

@@ -12,7 +12,9 @@ use mathlib.Core.Bool.{Bool, cond}
 use mathlib.Core.List.{List}
 use lib.Dec.{eqb, leb}
 use lib.ListN.{length}
+use Rattle.wire.specs.declared.Named.{Named}
 use Rattle.counters.specs.Map.{FIRST, LAST}
+use Rattle.bus.specs.Event as Event
 use Rattle.deeds.specs.Serve as Serve
 use Rattle.numbers.specs.Numbers.{accepted, wrongMemory, wrongState, unknownEvent}
 use Rattle.family.specs.Chip.{lastEvent}
@@ -40,7 +42,7 @@ pub record Ready (size : ℕ) (s : State) (m : List ℕ) : Type 0 where
   pub most : s .counters .address ≤ LAST
 
 -- Auxiliary: the state that an event leaves.
-abbrev pub stateOf : {size select : ℕ} → Done size select → State
+abbrev pub stateOf : {size : ℕ} {names : ℕ → Named} → Event.Done size names companion31 → State
 stateOf d = record { bus = d .bus; counters = d .companion }
 
 -- Auxiliary: what a function returns, and the memory it leaves, are those of an event.
@@ -66,7 +68,7 @@ refusal n s = record { number = n; state = s; answer = 1 }
 abbrev pub refused : ℕ → State → List ℕ → Step
 refused n s m = stepWith (refusal n s) m
 
-abbrev pub answered : {size select : ℕ} → Done size select → Step
+abbrev pub answered : {size : ℕ} {names : ℕ → Named} → Event.Done size names companion31 → Step
 answered d = stepWith (record { number = accepted; state = stateOf d; answer = answerByte (d .line) }) (d .memory)
 
 -- "Checked in the order of the numbers", over size and select.

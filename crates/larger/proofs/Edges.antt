@@ -5,20 +5,21 @@ use Prim.Native.Nat.{ℕ}
 use mathlib.Core.Path.{_≡_, refl, ap, _∙_}
 use mathlib.Core.Bool.{cond}
 use mathlib.Core.List.{List}
-use Rattle.bus.specs.Event.{happening, eventOn}
+use Rattle.bus.specs.Happening.{happening, edges}
+use Rattle.bus.specs.Event.{isSupplied, eventOn}
 use Rattle.bus.specs.declared.Power.{Power}
 use Rattle.bus.specs.declared.Power.the-variants.{On, Backup, Off}
 use Rattle.counters.specs.Part.{edgeOf}
 use Rattle.counters.specs.declared.Input.{Input}
 use Rattle.counters.specs.declared.Input.the-variants.{Cnt1, Cnt2}
-use Rattle.bus.specs.Select.{lone}
+use Rattle.bus.specs.Select.{lone, slaveNamesFor}
 use Rattle.family.specs.Chip.{companion31}
 use Rattle.family.specs.declared.State.{State}
-use Rattle.larger.specs.Edges.{isSupplied, edgeByte, left, EdgesCount, InTransfersToo, TicksNothing}
+use Rattle.larger.specs.Edges.{edgeByte, left, EdgesCount, InTransfersToo, TicksNothing}
 
 module _ (size : ℕ) (s : State) (m : List ℕ) where
   edge-under : (p : Power) (i : Input)
-      → eventOn size lone companion31 p (happening (edgeByte i)) (s .bus) (s .counters) m
+      → eventOn size (slaveNamesFor lone) companion31 p (happening edges (edgeByte i)) (s .bus) (s .counters) m
       ≡ left size s m (cond (isSupplied p) (edgeOf (s .counters) i) (s .counters))
   unfolding happening eventOn
   edge-under On Cnt1 = refl
@@ -29,7 +30,7 @@ module _ (size : ℕ) (s : State) (m : List ℕ) where
   edge-under Off Cnt2 = refl
 
   tick-under : (p : Power)
-      → eventOn size lone companion31 p (happening 4) (s .bus) (s .counters) m ≡ left size s m (s .counters)
+      → eventOn size (slaveNamesFor lone) companion31 p (happening edges 4) (s .bus) (s .counters) m ≡ left size s m (s .counters)
   unfolding happening eventOn
   tick-under On = refl
   tick-under Backup = refl

@@ -18,7 +18,8 @@ use Rattle.wire.specs.declared.Phase.{Phase}
 use Rattle.wire.specs.declared.Phase.the-variants.{Idle, Slave, AddressHigh, AddressLow, Pointer, Write, Read}
 use Rattle.wire.proofs.Tests.{and-split}
 use Rattle.bus.specs.Select.{slaveNamesFor}
-use Rattle.bus.specs.Event.{happening, eventOn}
+use Rattle.bus.specs.Happening.{happening}
+use Rattle.bus.specs.Event.{eventOn}
 use Rattle.bus.specs.declared.Beat.{Beat}
 use Rattle.bus.specs.declared.Beat.the-variants.{Cnt2}
 use Rattle.counters.specs.Edge.{edgeOf, nextCount}
@@ -74,13 +75,13 @@ module _ (size : ℕ) where
       (second-clocks P (bitsOf 0x15) moving (two done))))))))))
 
   -- no event at all changes the protection
-  abbrev protection : Held size lone companion31 → ℕ
+  abbrev protection : Held size (slaveNamesFor lone) companion31 → ℕ
   protection h = guardOf (h .companion)
 
-  abbrev next : Held size lone companion31 → Event Beat → Held size lone companion31
-  next h e = heldBy size lone companion31 (event size lone companion31 h (byteOf size lone companion31 e))
+  abbrev next : Held size (slaveNamesFor lone) companion31 → Event Beat → Held size (slaveNamesFor lone) companion31
+  next h e = heldBy size (slaveNamesFor lone) companion31 (event size (slaveNamesFor lone) companion31 h (byteOf size (slaveNamesFor lone) companion31 e))
 
-  abbrev isSteady : Held size lone companion31 → List (Event Beat) → Bool
+  abbrev isSteady : Held size (slaveNamesFor lone) companion31 → List (Event Beat) → Bool
   isSteady h [] = true
   isSteady h (e ∷ es) = eqb (protection (next h e)) (protection h) && isSteady (next h e) es
 
@@ -100,8 +101,8 @@ module _ (size : ℕ) where
   if-written p (line (clock d)) h = where-written p h
   if-written p (tick t) h = tt
 
-  steady-of-test : (h : Held size lone companion31) (es : List (Event Beat)) → isSteady h es ≡ true
-      → WritesSteadyIn size lone companion31 h es
+  steady-of-test : (h : Held size (slaveNamesFor lone) companion31) (es : List (Event Beat)) → isSteady h es ≡ true
+      → WritesSteadyIn size (slaveNamesFor lone) companion31 h es
   steady-of-test h [] t = tt
   steady-of-test h (e ∷ es) t =
       let b = and-split (eqb (protection (next h e)) (protection h)) (isSteady (next h e) es) t in (
@@ -109,7 +110,7 @@ module _ (size : ℕ) where
         steady-of-test (next h e) es (b .1),
       )
 
-  writes-steady : (m : List ℕ) → WritesSteadyIn size lone companion31 (held size fresh m) companionList
+  writes-steady : (m : List ℕ) → WritesSteadyIn size (slaveNamesFor lone) companion31 (held size fresh m) companionList
   unfolding happening eventOn lined clocked receivedAt kept pushed sentBit placeAt opened answers slaveNames slaveNamesFor
       aimOf storeOf writtenOf edgeOf nextCount blankOf lostOf
   writes-steady m = steady-of-test (held size fresh m) companionList refl

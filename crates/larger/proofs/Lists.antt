@@ -6,7 +6,7 @@ use Prim.Native.Nat.{ℕ, _+_, _*_}
 use mathlib.Core.Path.{_≡_, refl}
 use mathlib.Core.Bool.{Bool, true, false, cond}
 use mathlib.Core.List.{List, [], _∷_}
-use Rattle.bus.specs.Select.{lone}
+use Rattle.bus.specs.Select.{lone, slaveNamesFor}
 use Rattle.family.specs.Chip.{companion31, eventOf}
 use Rattle.family.specs.Step.{stateOf}
 use Rattle.family.specs.Run.{runOf}
@@ -16,7 +16,7 @@ use Rattle.larger.specs.Demand3.{held}
 
 module _ (size : ℕ) where
   pub run-held : (s : State) (m es : List ℕ)
-      → afterEvents size lone companion31 (held size s m) es
+      → afterEvents size (slaveNamesFor lone) companion31 (held size s m) es
       ≡ held size (runOf size lone s m es .state) (runOf size lone s m es .memory)
   unfolding runOf
   run-held s m [] = refl
@@ -27,7 +27,7 @@ module _ (size : ℕ) where
   line-alone false = refl
 
   pub answers-held : (s : State) (m es : List ℕ)
-      → answersTo size lone companion31 (held size s m) es ≡ runOf size lone s m es .answers
+      → answersTo size (slaveNamesFor lone) companion31 (held size s m) es ≡ runOf size lone s m es .answers
   unfolding runOf
   answers-held s m [] = refl
   answers-held s m (e ∷ es) =

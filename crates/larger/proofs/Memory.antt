@@ -9,20 +9,22 @@ use lib.ListN.{length}
 use Rattle.counters.specs.Part.{guardOf, lostOf, returnedOf}
 use Rattle.counters.specs.declared.Counters.{Counters}
 use Rattle.counters.proofs.Guard.{aim-guard, loaded-guard, edge-guard}
-use Rattle.bus.specs.Event.{happening, Done}
+use Rattle.bus.specs.Happening.{happening, edges}
+use Rattle.bus.specs.Event.{Done}
 use Rattle.deeds.specs.Serve.{deedOf, servedOf}
 use Rattle.bus.specs.declared.Beat.{Beat}
 use Rattle.bus.specs.declared.Beat.the-variants.{Second, Cnt1, Cnt2}
 use Rattle.deeds.specs.declared.Deed.{Deed}
 use Rattle.deeds.specs.declared.Deed.the-variants as deed
 use Rattle.deeds.proofs.Split.{split}
-use Rattle.bus.specs.Select.{lone}
+use Rattle.bus.specs.Select.{lone, slaveNamesFor}
 use Rattle.family.specs.Chip.{companion31, beaten}
 use Rattle.family.specs.Run.{runOf}
 use Rattle.family.proofs.Entry.{limits-of}
 use Rattle.run31.proofs.Runs.{run-ok}
 use Rattle.parts.specs.Events.{clockEvent, afterEvents}
 use Rattle.parts.specs.Stored.{BeatsKeep, Pulls}
+use Rattle.parts.proofs.Events.{edge-heard}
 use Rattle.parts.proofs.Stored as stored
 use Rattle.parts.proofs.Protected as kept
 use Rattle.larger.specs.Demand3.{held}
@@ -46,15 +48,16 @@ module _ (size : ℕ) where
       rw (o .memory) (limits-of size lone (runOf size lone s m before .state) (o .state) .bus .address) in
       let b = run-held size s m before in
       let h = held size s m in
-      let low : Pulls size lone companion31 (afterEvents size lone companion31 h (before ++ byte)) =
+      let low : Pulls size (slaveNamesFor lone) companion31 (afterEvents size (slaveNamesFor lone) companion31 h (before ++ byte)) =
       rw (run-held size s m (before ++ byte)) pulls in
       rw (b, run-held size s m (before ++ (byte ++ (clockEvent d ∷ [])))) at
-      (stored.acknowledged-stored size lone companion31 beats-keep h before byte w d (rw b inside) (rw b start) r low)
+      (stored.acknowledged-stored size (slaveNamesFor lone) companion31 beats-keep edge-heard h before byte w d
+      (rw b inside) (rw b start) r low)
 
   pub protected-kept : ProtectedKept size
   protected-kept s m es a h =
       rw (run-held size s m es) at
-      (kept.protected-kept size lone companion31 (held size s m) es a
+      (kept.protected-kept size (slaveNamesFor lone) companion31 (held size s m) es a
       (λ done rest e q. rw (run-held size s m done) (h done rest e q)))
 
   -- what is asked of the companion, but to store, leaves WP1 WP0
@@ -74,6 +77,6 @@ module _ (size : ℕ) where
   pub only-stores-protect : OnlyStoresProtect size
   only-stores-protect s m e n =
       let u = s .bus in
-      ap (λ (d : Done size lone companion31). guardOf (d .companion))
-      (split size lone companion31 u (s .counters) m (u .power) (happening e))
-      ∙ served-guard (s .counters) (deedOf (u .power) (u .phase) (happening e)) n
+      ap (λ (d : Done size (slaveNamesFor lone) companion31). guardOf (d .companion))
+      (split size (slaveNamesFor lone) companion31 u (s .counters) m (u .power) (happening edges e))
+      ∙ served-guard (s .counters) (deedOf (u .power) (u .phase) (happening edges e)) n

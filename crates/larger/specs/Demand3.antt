@@ -15,7 +15,7 @@ use Rattle.bus.specs.declared.Power.the-variants.{On}
 use Rattle.merging.specs.Merge.{eventsOf, picked}
 use Rattle.merging.specs.Party.{to, isMemory, isCompanion, BusEvent, PartyEvent, Whole}
 use Rattle.merging.specs.Demand.{Merge}
-use Rattle.bus.specs.Select.{lone}
+use Rattle.bus.specs.Select.{lone, slaveNamesFor}
 use Rattle.family.specs.Chip.{companion31}
 use Rattle.family.specs.Run.{runOf}
 use Rattle.family.specs.declared.State.{State}
@@ -25,9 +25,9 @@ use Rattle.parts.specs.Demand3.{linesOf, bytesOf, WritesSteadyIn}
 module _ (size : ℕ) where
   -- The part, as the bus machine has it; its ticks are a second, an edge on CNT1, an edge on CNT2.
   abbrev pub part : Parts
-  part = partOf size lone companion31
+  part = partOf size (slaveNamesFor lone) companion31
 
-  abbrev pub held : State → List ℕ → Held size lone companion31
+  abbrev pub held : State → List ℕ → Held size (slaveNamesFor lone) companion31
   held s m = record { bus = s .bus; companion = s .counters; memory = m }
 
   -- What three lists leave and answer, the third a merge of the first two: memory, its address and the line answers to
@@ -48,6 +48,6 @@ module _ (size : ℕ) where
       (s : State) (m : List ℕ) (xs ys : List (BusEvent part)) (l : List (PartyEvent part))
       → s .bus .power ≡ On → s .bus .phase ≡ Idle
       → Whole part (to Memory) xs → Whole part (to Companion) ys → Merge part xs ys l
-      → WritesSteadyIn size lone companion31 (held s m) ys
-      → let bytes : List (BusEvent part) → List ℕ = bytesOf size lone companion31 in
+      → WritesSteadyIn size (slaveNamesFor lone) companion31 (held s m) ys
+      → let bytes : List (BusEvent part) → List ℕ = bytesOf size (slaveNamesFor lone) companion31 in
       Demanded s m (bytes xs) (bytes ys) (bytes (eventsOf l)) l

@@ -1,7 +1,7 @@
 -- SPDX-License-Identifier: Apache-2.0
 -- When an edge counts (02, number 5: "Edges count while power or backup is present, during a write too (our ruling)"),
 -- and that ticks change nothing, over the size.
---   isSupplied, counts   a supply is present; whether an edge counts
+--   counts               whether an edge counts
 --   edgeByte, left       its byte; an event that changes at most the companion, and leaves the line high
 --   EdgesCount, InTransfersToo, TicksNothing   the statements
 -- Assumes nothing.
@@ -9,23 +9,16 @@ use Prim.Native.Nat.{ℕ}
 use mathlib.Core.Path.{_≡_}
 use mathlib.Core.Bool.{Bool, true, false, cond}
 use mathlib.Core.List.{List}
-use Rattle.bus.specs.Event.{done}
+use Rattle.bus.specs.Event.{isSupplied, done}
 use Rattle.bounds.specs.Limits.{isIdle}
-use Rattle.bus.specs.declared.Power.{Power}
-use Rattle.bus.specs.declared.Power.the-variants.{On, Backup, Off}
+use Rattle.bus.specs.declared.Power.the-variants.{On}
 use Rattle.counters.specs.Part.{edgeOf}
 use Rattle.counters.specs.declared.Counters.{Counters}
 use Rattle.counters.specs.declared.Input.{Input}
 use Rattle.counters.specs.declared.Input.the-variants.{Cnt1, Cnt2}
-use Rattle.bus.specs.Select.{lone}
+use Rattle.bus.specs.Select.{lone, slaveNamesFor}
 use Rattle.family.specs.Chip.{companion31, Done, eventOf}
 use Rattle.family.specs.declared.State.{State}
-
--- "Power or backup is present."
-abbrev pub isSupplied : Power → Bool
-isSupplied On = true
-isSupplied Backup = true
-isSupplied Off = false
 
 -- By the supplies alone: in every phase, at every clock of every byte.
 abbrev pub counts : State → Bool
@@ -38,7 +31,7 @@ edgeByte Cnt2 = 9
 
 -- Auxiliary: an event that leaves this companion and all else as it was, and the line high.
 abbrev pub left : (size : ℕ) → State → List ℕ → Counters → Done size lone
-left size s m c = done size lone companion31 (s .bus) c m true
+left size s m c = done size (slaveNamesFor lone) companion31 (s .bus) c m true
 
 -- An edge that counts leaves the counters one on; any other changes nothing.
 abbrev pub EdgesCount : ℕ → Type 0

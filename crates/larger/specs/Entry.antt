@@ -15,6 +15,7 @@ use Rattle.weights.specs.Weight.{has}
 use Rattle.counters.specs.Map.{SNL}
 use Rattle.bus.specs.Select.{lone}
 use Rattle.numbers.specs.Numbers.{accepted}
+use Rattle.family.specs.Chip.{companion31}
 use Rattle.family.specs.declared.State.{State}
 use Rattle.image31.specs.Image.{decodeOf}
 use Rattle.rig31.specs.Run.{outcomeOf}
@@ -35,7 +36,7 @@ module _ (size : ℕ) where
   CallStores =
       (i m before byte a : List ℕ) (w : ℕ) (d : Bool) (s : State)
       → outcomeOf size i m (upToNinth before byte d) a .number ≡ accepted
-      → decodeOf size lone (outcomeOf size i m before a .image) ≡ Good s → AtData (s .bus) → Byte w byte
+      → decodeOf size lone (outcomeOf size i m before a .image) ≡ Good s → AtData (s .bus) → Byte companion31 w byte
       → getD (outcomeOf size i m (upToNinth before byte true) a .answers) (length (before ++ byte)) 0 % 2 ≡ 0
       → StoredAt (outcomeOf size i m before a .memory) (s .bus .address) w
       (outcomeOf size i m (upToNinth before byte d) a .memory)

@@ -15,7 +15,7 @@ use Rattle.bus.specs.declared.Beat.the-variants.{Cnt1, Cnt2}
 use Rattle.merging.specs.Merge.{Said, by, eventsOf}
 use Rattle.merging.specs.Party.{Party, to}
 use Rattle.merging.specs.Clocks.{clocks, clocksBy, bitsOf}
-use Rattle.bus.specs.Select.{lone}
+use Rattle.bus.specs.Select.{lone, slaveNamesFor}
 use Rattle.family.specs.Chip.{sizeOf, companion31, fresh}
 use Rattle.family.specs.Run.{Ended, runOf}
 use Rattle.family.specs.declared.Size.{Size}
@@ -43,7 +43,7 @@ mergedList =
 -- The merge meets all that demand 3 asks, so what is demanded holds of it.
 abbrev pub ExampleDemanded : Type 0
 ExampleDemanded =
-    (k : Size) (m : List ℕ) → let bytes : List (Event Beat) → List ℕ = bytesOf (sizeOf k) lone companion31 in
+    (k : Size) (m : List ℕ) → let bytes : List (Event Beat) → List ℕ = bytesOf (sizeOf k) (slaveNamesFor lone) companion31 in
     Demanded (sizeOf k) fresh m (bytes memoryList) (bytes companionList) (bytes (eventsOf mergedList)) mergedList
 
 -- And both transactions, and both edges, did something.
@@ -58,4 +58,4 @@ pub record Did (m : List ℕ) (r : Ended) : Type 0 where
 abbrev pub ExampleOutcome : Type 0
 ExampleOutcome =
     (k : Size) (m : List ℕ)
-    → Did m (runOf (sizeOf k) lone fresh m (bytesOf (sizeOf k) lone companion31 (eventsOf mergedList)))
+    → Did m (runOf (sizeOf k) lone fresh m (bytesOf (sizeOf k) (slaveNamesFor lone) companion31 (eventsOf mergedList)))

@@ -12,11 +12,11 @@ use mathlib.Core.List.{List, [], _∷_, _++_}
 use lib.ListN.{length, getD}
 use Rattle.wire.specs.Memory.{isProtected}
 use Rattle.counters.specs.Part.{guardOf}
-use Rattle.bus.specs.Event.{happening}
+use Rattle.bus.specs.Happening.{happening, edges}
 use Rattle.deeds.specs.Serve.{deedOf}
 use Rattle.deeds.specs.declared.Deed.the-variants.{Store}
 use Rattle.bus.specs.Select.{lone}
-use Rattle.family.specs.Chip.{eventOf}
+use Rattle.family.specs.Chip.{companion31, eventOf}
 use Rattle.family.specs.Limits.{wellFormed}
 use Rattle.family.specs.Run.{runOf}
 use Rattle.family.specs.declared.State.{State}
@@ -31,7 +31,7 @@ module _ (size : ℕ) where
       (s : State) (m before byte : List ℕ) (w : ℕ) (d : Bool) → wellFormed size lone s ≡ true → length m ≡ size
       → let begun = runOf size lone s m before in
       let read = runOf size lone s m (before ++ byte) in
-      AtData (begun .state .bus) → Byte w byte → eventOf size lone (read .state) (read .memory) 3 .line ≡ false
+      AtData (begun .state .bus) → Byte companion31 w byte → eventOf size lone (read .state) (read .memory) 3 .line ≡ false
       → StoredAt (begun .memory) (begun .state .bus .address) w
       (runOf size lone s m (before ++ (byte ++ (clockEvent d ∷ []))) .memory)
 
@@ -54,5 +54,5 @@ module _ (size : ℕ) where
   abbrev pub OnlyStoresProtect : Type 0
   OnlyStoresProtect =
       (s : State) (m : List ℕ) (e : ℕ)
-      → ((b : ℕ) → deedOf (s .bus .power) (s .bus .phase) (happening e) ≡ Store b → ⊥)
+      → ((b : ℕ) → deedOf (s .bus .power) (s .bus .phase) (happening edges e) ≡ Store b → ⊥)
       → guardOf (eventOf size lone s m e .companion) ≡ guardOf (s .counters)

@@ -1,6 +1,6 @@
 -- SPDX-License-Identifier: Apache-2.0
--- Demand 3 on event bytes, from that of the machine, over any size, select and companion. A powered event byte is the
--- machine's event (`event-is`), by computation; so a list of event bytes leaves what the machine's run leaves
+-- Demand 3 on event bytes, from that of the machine, over any size, names and companion. A powered event byte is the
+-- machine's event (`event-is`): a tick by what is asked of the part, any other by computation; so a list of event bytes leaves what the machine's run leaves
 -- (`run-is`), and is answered by its answers, written as bytes (`answers-are`) or as bits (`lines-are`).
 -- Assumes nothing.
 use Prim.Native.Nat.{ℕ, _+_, _*_, _%_}
@@ -11,9 +11,10 @@ use native.Mathlib.Omega.{arith}
 use Rattle.wire.specs.Machine.{start, stop, clock, line, tick, Answer, answerOf, step}
 use Rattle.wire.specs.Machine as Machine
 use Rattle.wire.specs.Memory.{Cells, lent}
+use Rattle.wire.specs.declared.Named.{Named}
 use Rattle.bus.specs.Desk.{Desks, partOf}
-use Rattle.bus.specs.Event.{happening, Done, doneOf, eventOn}
-use Rattle.bus.specs.declared.Beat.the-variants.{Second, Cnt1, Cnt2}
+use Rattle.bus.specs.Happening.{happening}
+use Rattle.bus.specs.Event.{Done, doneOf, eventOn}
 use Rattle.bus.specs.declared.Power.the-variants.{On}
 use Rattle.merging.specs.Merge.{Said, by, eventsOf, keepIf, picked}
 use Rattle.merging.specs.Party.{isMemory, isCompanion, BusEvent, PartyEvent}
@@ -21,7 +22,7 @@ use Rattle.merging.specs.Apart.{run, answersOf}
 use Rattle.merging.specs.Demand.{OnlyWrites, IfWritten, WritesSteady, Isolated}
 use Rattle.merging.proofs.Demand.{isolation}
 use Rattle.parts.specs.Demand3 as bytes
-use Rattle.parts.specs.Events.{Held, event, heldBy, answerTo, afterEvents, answersTo}
+use Rattle.parts.specs.Events.{TicksHeard, Held, event, heldBy, answerTo, afterEvents, answersTo}
 use Rattle.parts.specs.Demand3.{linesOf, DemandThree}
 
 line-bit : (n : ℕ) (d : Bool) → (2 * n + cond d 1 0) % 2 ≡ cond d 1 0
@@ -41,12 +42,12 @@ picked-map f mine (by i e ∷ l) [] = refl
 picked-map f mine (by i e ∷ l) (a ∷ all) =
     keep-map f (mine i) a (picked mine l (map f all)) (picked mine l all) (picked-map f mine l all)
 
-module _ (size select : ℕ) (D : Desks) where
+module _ (size : ℕ) (names : ℕ → Named) (D : Desks) (T : TicksHeard D) where
   abbrev P : Machine.Parts
-  P = partOf size select D
+  P = partOf size names D
 
   abbrev H : Type 0
-  H = Held size select D
+  H = Held size names D
 
   abbrev Bus : Type 0
   Bus = Machine.State P
@@ -55,19 +56,19 @@ module _ (size select : ℕ) (D : Desks) where
   Events = List (BusEvent P)
 
   abbrev after : H → List ℕ → H
-  after = afterEvents size select D
+  after = afterEvents size names D
 
   abbrev answers : H → List ℕ → List ℕ
-  answers = answersTo size select D
+  answers = answersTo size names D
 
   abbrev byteOf : BusEvent P → ℕ
-  byteOf = bytes.byteOf size select D
+  byteOf = bytes.byteOf size names D
 
   abbrev bytesOf : Events → List ℕ
-  bytesOf = bytes.bytesOf size select D
+  bytesOf = bytes.bytesOf size names D
 
   abbrev SteadyIn : H → Events → Type 0
-  SteadyIn = bytes.WritesSteadyIn size select D
+  SteadyIn = bytes.WritesSteadyIn size names D
 
   -- what a powered device holds, of the machine's state; and its memory
   abbrev heldOf : Bus → H
@@ -90,22 +91,20 @@ module _ (size select : ℕ) (D : Desks) where
 
   -- one event
   event-is : (u : Bus) (e : BusEvent P)
-      → event size select D (heldOf u) (byteOf e) ≡ doneOf size select D (step P u e)
+      → event size names D (heldOf u) (byteOf e) ≡ doneOf size names D (step P u e)
   unfolding happening eventOn
   event-is u (line start) = refl
   event-is u (line stop) = refl
   event-is u (line (clock false)) = refl
   event-is u (line (clock true)) = refl
-  event-is u (tick Second) = refl
-  event-is u (tick Cnt1) = refl
-  event-is u (tick Cnt2) = refl
+  event-is u (tick t) = rw (T t)
 
   module _ (u : Bus) (e : BusEvent P) where
-    after-is : heldBy size select D (event size select D (heldOf u) (byteOf e)) ≡ heldOf (step P u e .state)
-    after-is = ap (heldBy size select D) (event-is u e)
+    after-is : heldBy size names D (event size names D (heldOf u) (byteOf e)) ≡ heldOf (step P u e .state)
+    after-is = ap (heldBy size names D) (event-is u e)
 
-    answer-is : answerTo size select D (heldOf u) (byteOf e) ≡ byteFor (answerOf P (step P u e))
-    answer-is = ap (λ (d : Done size select D). 2 * D .pin (d .companion) + cond (d .line) 1 0) (event-is u e)
+    answer-is : answerTo size names D (heldOf u) (byteOf e) ≡ byteFor (answerOf P (step P u e))
+    answer-is = ap (λ (d : Done size names D). 2 * D .pin (d .bus .power) (d .companion) + cond (d .line) 1 0) (event-is u e)
 
   -- a list of events
   run-is : (u : Bus) (es : Events) → after (heldOf u) (bytesOf es) ≡ heldOf (run P u es)
@@ -164,7 +163,7 @@ module _ (size select : ℕ) (D : Desks) where
         ∙ (picked-map byteFor isCompanion l (answersOf P (λ a. a) u (eventsOf l))
         ∙ (ap (map byteFor) (r .companion-answers) ∙ sym (answers-are u ys)))
 
-    demanded : bytes.Demanded size select D (heldOf u) (bytesOf xs) (bytesOf ys) all l
+    demanded : bytes.Demanded size names D (heldOf u) (bytesOf xs) (bytesOf ys) all l
     demanded =
         record {
           memory = store-alike (λ m. m .bytes);
@@ -186,12 +185,12 @@ module _ (size select : ℕ) (D : Desks) where
         memory = h .memory;
       }
 
-  pub demand-three : OnlyWrites P → DemandThree size select D
+  pub demand-three : OnlyWrites P → DemandThree size names D
   unfolding machineOf
   demand-three only h xs ys l on idle wx wy merge steady =
       let u = machineOf h in
       let k = powered h on in
-      subst (λ (z : H). bytes.Demanded size select D z (bytesOf xs) (bytesOf ys) (bytesOf (eventsOf l)) l) (sym k)
+      subst (λ (z : H). bytes.Demanded size names D z (bytesOf xs) (bytesOf ys) (bytesOf (eventsOf l)) l) (sym k)
       (demanded u xs ys l
       (isolation P only u xs ys l idle wx wy merge
       (steady-is u ys (subst (λ (z : H). SteadyIn z ys) k steady))))

@@ -22,20 +22,22 @@ use Rattle.wire.specs.declared.Phase.the-variants.{Idle, Slave, AddressHigh, Ad
 use Rattle.wire.proofs.Clock.{received-inside, received-last, received-ack}
 use Rattle.wire.proofs.Cells.{low-bytes, fetch-bytes}
 use Rattle.wire.proofs.Tests.{by-test}
+use Rattle.wire.specs.declared.Named.{Named}
 use Rattle.bus.specs.Desk.{Desks, partOf}
-use Rattle.bus.specs.Event.{Happening, onWire, beat, lost, gone, returned, happening, eventOn}
+use Rattle.bus.specs.Happening.{Happening, onWire, beat, lost, gone, returned, happening}
+use Rattle.bus.specs.Event.{eventOn}
 use Rattle.bus.specs.declared.Power.{Power}
 use Rattle.bus.specs.declared.Power.the-variants.{On, Backup, Off}
 use Rattle.parts.specs.Events.{Held, event, heldBy}
 use Rattle.parts.specs.Protected as bytes
 use Rattle.parts.specs.Protected.{Change, same, eighth, OnlyEighthClocks, ProtectedUnchanged, ProtectedKept}
 
-module _ (size select : ℕ) (D : Desks) where
+module _ (size : ℕ) (names : ℕ → Named) (D : Desks) where
   abbrev H : Type 0
-  H = Held size select D
+  H = Held size names D
 
   abbrev Protected : H → ℕ → Bool
-  Protected h a = bytes.Protected size select D h a
+  Protected h a = bytes.Protected size names D h a
 
   module _ (h : H) (d : Bool) where
     abbrev at : ℕ
@@ -45,7 +47,7 @@ module _ (size select : ℕ) (D : Desks) where
     cells = lent (h .memory) at
 
     abbrev Now : List ℕ → Type 0
-    Now m′ = Change size select D h (onWire (clock d)) m′
+    Now m′ = Change size names D h (onWire (clock d)) m′
 
     -- a data byte: put at its eighth clock, unless the address is protected
     put-change : (b : ℕ) → h .bus .power ≡ On → h .bus .phase ≡ Write Memory 7 b
@@ -65,7 +67,7 @@ module _ (size select : ℕ) (D : Desks) where
         (λ q. rw (received-ack R cells k b d (ltb-false k 7 l) (eqb-false k 7 q)) (same refl)))
 
     clock-change : (p : Phase) → h .bus .power ≡ On → h .bus .phase ≡ p
-        → Now (clocked (partOf size select D) p cells (h .companion) d .state .memory .bytes)
+        → Now (clocked (partOf size names D) p cells (h .companion) d .state .memory .bytes)
     unfolding clocked
     clock-change Idle on e = same refl
     clock-change (Slave k b) on e = same refl
@@ -78,7 +80,7 @@ module _ (size select : ℕ) (D : Desks) where
     clock-change (Read Companion k b) on e = same refl
 
   event-change : (p : Power) (x : Happening) (h : H) → h .bus .power ≡ p
-      → Change size select D h x (eventOn size select D p x (h .bus) (h .companion) (h .memory) .memory)
+      → Change size names D h x (eventOn size names D p x (h .bus) (h .companion) (h .memory) .memory)
   unfolding eventOn lined
   event-change On (onWire start) h e = same refl
   event-change On (onWire stop) h e = same refl
@@ -98,10 +100,10 @@ module _ (size select : ℕ) (D : Desks) where
   event-change Off gone h e = same refl
   event-change Off returned h e = same refl
 
-  pub only-eighth-clocks : OnlyEighthClocks size select D
-  only-eighth-clocks h e = event-change (h .bus .power) (happening e) h refl
+  pub only-eighth-clocks : OnlyEighthClocks size names D
+  only-eighth-clocks h e = event-change (h .bus .power) (happening (D .beyond) e) h refl
 
-  unchanged : (h : H) (x : Happening) (m′ : List ℕ) (a : ℕ) → Change size select D h x m′ → Protected h a ≡ true
+  unchanged : (h : H) (x : Happening) (m′ : List ℕ) (a : ℕ) → Change size names D h x m′ → Protected h a ≡ true
       → getD m′ a 0 ≡ getD (h .memory) a 0
   unchanged h x m′ a (same q) p = ap (λ (l : List ℕ). getD l a 0) q
   unchanged h x m′ a (eighth b d on f e n q) p =
@@ -109,13 +111,13 @@ module _ (size select : ℕ) (D : Desks) where
       ∙ getD-set-other (h .memory) (h .bus .address) a (pushed b d) 0
       (λ z. true≢false (sym p ∙ (ap (Protected h) z ∙ n)))
 
-  pub protected-unchanged : ProtectedUnchanged size select D
-  protected-unchanged h e a p = unchanged h (happening e) _ a (only-eighth-clocks h e) p
+  pub protected-unchanged : ProtectedUnchanged size names D
+  protected-unchanged h e a p = unchanged h (happening (D .beyond) e) _ a (only-eighth-clocks h e) p
 
   -- by induction on the list, one event after the other leaves it
-  pub protected-kept : ProtectedKept size select D
+  pub protected-kept : ProtectedKept size names D
   protected-kept h [] a p = refl
   protected-kept h (e ∷ es) a p =
-      protected-kept (heldBy size select D (event size select D h e)) es a
+      protected-kept (heldBy size names D (event size names D h e)) es a
       (λ done rest f q. p (e ∷ done) rest f (ap (λ (z : List ℕ). e ∷ z) q))
       ∙ protected-unchanged h e a (p [] es e refl)

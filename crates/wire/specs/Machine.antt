@@ -1,6 +1,6 @@
 -- SPDX-License-Identifier: Apache-2.0
 -- THE bus machine, over any part: what Start, Stop, a Clock and a tick do (01, Transfers). The FM3130 is one value of
--- `Parts`; contracts, theorems and tests all cite this machine at that value.
+-- `Parts`, a device of the larger family another; contracts, theorems and tests all cite this machine at such a value.
 --   Parts   the two devices of a part            clocked, lined, step   one event
 --   State   phase, memory, companion             Answer, answerOf       what is seen of it
 -- Assumes nothing.

@@ -3,7 +3,7 @@
 -- Assumes nothing.
 use Prim.Native.Nat.{zero-le}
 use Rattle.weights.proofs.Cases.{is-last}
-use Rattle.bus.specs.Event.{happening}
+use Rattle.bus.specs.Happening.{happening}
 use Rattle.deeds.specs.Serve.{deedOf}
 use Rattle.deeds.proofs.backup_asks.Statement.{statement}
 use Rattle.deeds.proofs.backup_asks.Tie as tie

@@ -4,7 +4,7 @@
 use Prim.Native.Nat.{zero-le}
 use borrow.Author.Needs.{needs}
 use Rattle.weights.proofs.Cases.{is-last}
-use Rattle.bus.specs.Event.{happening}
+use Rattle.bus.specs.Happening.{happening}
 use Rattle.deeds.specs.Serve.{deedOf}
 use Rattle.deeds.proofs.on_asks.Statement.{statement}
 use Rattle.deeds.proofs.on_asks.Tie as tie

@@ -5,7 +5,9 @@ use mathlib.Core.Path.{refl}
 use denote.Ref.{now}
 use borrow.Author.Needs.{needs}
 use Rattle.wire.specs.Machine.{lined, clock}
-use Rattle.bus.specs.Event.{onWire, eventOn}
+use Rattle.bus.specs.Happening.{onWire}
+use Rattle.bus.specs.Event.{eventOn}
+use Rattle.bus.specs.Select.{slaveNamesFor}
 use Rattle.bus.proofs.Cases.{at-power}
 use Rattle.bus.proofs.Bus.clock.Statement.{statement}
 use Rattle.bus.proofs.Bus.clock.Tie as tie
@@ -32,12 +34,12 @@ returns c = rw (c .before .before .before .before .enum-told .given .1) (rw (c .
 
 returns-2 : tie.Need-returns-2
 unfolding eventOn
-returns-2 c = let a = c .before .before .before .args in at-power (a .size) (a .select) (a .guard) (a .reply) (a .self)
+returns-2 c = let a = c .before .before .before .args in at-power (a .size) (slaveNamesFor (a .select)) (a .guard) (a .reply) (a .self)
     (now (a .memory)) (onWire (clock (a .high))) (c .enum-told2 .given .1) refl
 
 returns-3 : tie.Need-returns-3
 unfolding eventOn
-returns-3 c = let a = c .before .before .before .args in at-power (a .size) (a .select) (a .guard) (a .reply) (a .self)
+returns-3 c = let a = c .before .before .before .args in at-power (a .size) (slaveNamesFor (a .select)) (a .guard) (a .reply) (a .self)
     (now (a .memory)) (onWire (clock (a .high))) (c .enum-told3 .given .1) refl
 
 pub clock-spec : {M : Type 1} → statement M

@@ -3,6 +3,7 @@
 -- Assumes nothing.
 use denote.Ref.{now}
 use borrow.Author.Needs.{needs}
+use Rattle.bus.specs.Select.{slaveNamesFor}
 use Rattle.bus.proofs.Cases.{happening-clock}
 use Rattle.bus.proofs.Bus.happen.Statement.{statement}
 use Rattle.bus.proofs.Bus.happen.Tie as tie
@@ -20,7 +21,7 @@ other-requires : tie.Need-other-requires
 other-requires c κs = search needs
 
 returns-2 : tie.Need-returns-2
-returns-2 c = let a = c .before .before .before .args in c .other .ensures (a .size) (a .select) (a .guard) (a .reply)
+returns-2 c = let a = c .before .before .before .args in c .other .ensures (a .size) (slaveNamesFor (a .select)) (a .guard) (a .reply)
     (now (a .memory))
 
 pub happen-spec : {M : Type 1} → statement M

@@ -3,7 +3,8 @@
 -- Assumes nothing.
 use borrow.Author.Needs.{needs}
 use Rattle.wire.specs.Machine.{lined}
-use Rattle.bus.specs.Event.{happening, eventOn}
+use Rattle.bus.specs.Happening.{happening, edges}
+use Rattle.bus.specs.Event.{eventOn}
 use Rattle.bus.proofs.Cases.{at-power}
 use Rattle.bus.proofs.Cases.{below-ten, same-on, same-backup, same-off}
 use Rattle.bus.proofs.Bus.other.Statement.{statement}
@@ -73,7 +74,7 @@ returns-4 c = λ size z g y m. rw (
 returns-5 : tie.Need-returns-5
 returns-5 c =
     let a = c .before .before .before .args in let p = c .before .before .before .pre in let n = c .match2 .rest in
-    λ size z g y m. at-power size z g y (a .self) m (happening (a .event)) (c .before .enum-told .given .1)
+    λ size z g y m. at-power size z g y (a .self) m (happening edges (a .event)) (c .before .enum-told .given .1)
     (same-on size z g y (a .self) m (a .event) (below-ten _ (p .0)) (p .1) (n .0 .0 .0 .1) (n .0 .0 .1) (n .0 .1) (n
     .1))
 
@@ -98,7 +99,7 @@ returns-7 c = λ size z g y m. rw (
 returns-8 : tie.Need-returns-8
 returns-8 c =
     let a = c .before .before .before .args in let p = c .before .before .before .pre in let n = c .match3 .rest in
-    λ size z g y m. at-power size z g y (a .self) m (happening (a .event)) (c .before .enum-told2 .given .1)
+    λ size z g y m. at-power size z g y (a .self) m (happening edges (a .event)) (c .before .enum-told2 .given .1)
     (same-backup size z g y (a .self) m (a .event) (below-ten _ (p .0)) (p .1) (n .0 .1) (n .1))
 
 returns-9 : tie.Need-returns-9
@@ -113,7 +114,7 @@ returns-9 c = λ size z g y m. rw (
 returns-10 : tie.Need-returns-10
 returns-10 c =
     let a = c .before .before .before .args in let p = c .before .before .before .pre in let n = c .match4 .rest in
-    λ size z g y m. at-power size z g y (a .self) m (happening (a .event)) (c .before .enum-told3 .given .1)
+    λ size z g y m. at-power size z g y (a .self) m (happening edges (a .event)) (c .before .enum-told3 .given .1)
     (same-off size z g y (a .self) m (a .event) (below-ten _ (p .0)) (p .1) (n .1))
 
 pub other-spec : {M : Type 1} → statement M
