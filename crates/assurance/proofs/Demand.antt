@@ -7,6 +7,7 @@ use mathlib.Core.Path.{_≡_, refl, sym, ap, _∙_}
 use mathlib.Core.Bool.{Bool, true, false, cond}
 use mathlib.Core.List.{List, [], _∷_, _++_}
 use Rattle.lists.specs.Run.{following, runOf}
+use Rattle.lists.specs.Held.{held}
 use Rattle.lists.proofs.Pieces.{run-append}
 use Rattle.isolation.proofs.Demand3.{demand-three}
 use Rattle.assurance.specs.Session.{World, Act, asks, calls, begin, isAnswered, ranOn, afterAct, answeredOf, sessionOf}
@@ -31,16 +32,7 @@ session-as-list w (calls x es ∷ l) =
     called (isAnswered (w .holder) x es) w es l (session-as-list (afterAct w (calls x es)) l)
 
 pub demand-three-of-sessions : DemandThreeOfSessions
-demand-three-of-sessions h xs ys l one two both on idle first second merge steady p q r =
-    let d = demand-three h xs ys l on idle first second merge steady in
-    let w = begin (h .state) (h .memory) in
+demand-three-of-sessions s m xs ys l one two both on idle first second merge steady p q r =
+    let w = begin s m in
     rw (session-as-list w one, session-as-list w two, session-as-list w both, p, q, r)
-    (record {
-      memory = d .memory;
-      memory-address = d .memory-address;
-      memory-lines = d .memory-lines;
-      registers = d .registers;
-      core = d .core;
-      companion-address = d .companion-address;
-      companion-answers = d .companion-answers;
-    })
+    (demand-three (held s m) xs ys l on idle first second merge steady)

@@ -14,7 +14,7 @@ use Rattle.wire.proofs.Tests.{by-test, and-split}
 use Rattle.bounds.specs.Limits.{powerWithin}
 use Rattle.bus.specs.declared.Power.{Power}
 use Rattle.bus.specs.declared.Power.the-variants.{On, Backup, Off}
-use Rattle.device.specs.Event.{Happening, onWire, second, lost, gone, returned, happening, eventOn, eventOf}
+use Rattle.device.specs.Event.{Happening, onWire, beat, lost, gone, returned, happening, eventOn, eventOf}
 use Rattle.device.specs.declared.State.{State}
 use Rattle.lists.specs.Run.{runOf, allKnown}
 use Rattle.lists.proofs.Pieces.{run-append}
@@ -51,17 +51,17 @@ unfolding eventOn lined powerWithin
 dark-on On (onWire start) h m e d = refl
 dark-on On (onWire stop) h m e d = refl
 dark-on On (onWire (clock b)) h m e d = refl
-dark-on On second h m e d = refl
+dark-on On (beat t′) h m e d = d
 dark-on On lost h m e d = refl
 dark-on On gone h m e d = refl
 dark-on On returned h m e d = d
 dark-on Backup (onWire x) h m e d = d
-dark-on Backup second h m e d = d
+dark-on Backup (beat t′) h m e d = d
 dark-on Backup lost h m e d = d
 dark-on Backup gone h m e d = refl
 dark-on Backup returned h m e d = refl
 dark-on Off (onWire x) h m e d = d
-dark-on Off second h m e d = d
+dark-on Off (beat t′) h m e d = d
 dark-on Off lost h m e d = d
 dark-on Off gone h m e d = d
 dark-on Off returned h m e d = refl
@@ -82,7 +82,7 @@ frees-worlds (i ∷ es) b =
   where
     go : (x : Happening) → isBus x ≡ false → freedBy true x ≡ true
     go (onWire x) e = absurd (true≢false e)
-    go second e = refl
+    go (beat t′) e = refl
     go lost e = refl
     go gone e = refl
     go returned e = refl
@@ -96,7 +96,7 @@ marked-worlds (i ∷ es) h m t b e =
   where
     go : (x : Happening) → isBus x ≡ false → marked t (h .phase) x ≡ false
     go (onWire x) b = absurd (true≢false b)
-    go second b = e
+    go (beat t′) b = e
     go lost b = refl
     go gone b = refl
     go returned b = e

@@ -23,7 +23,7 @@ use Rattle.companion.specs.Change.{withAddress}
 use Rattle.companion.specs.Part.{tickOf, returnedOf}
 use Rattle.companion.specs.declared.Companion.{Companion as Desk}
 use Rattle.device.specs.Chip.{fm3130}
-use Rattle.device.specs.Event.{Happening, onWire, second, lost, gone, returned, happening, eventOn, eventOf}
+use Rattle.device.specs.Event.{Happening, onWire, beat, lost, gone, returned, happening, eventOn, eventOf}
 use Rattle.device.specs.declared.State.{State}
 use Rattle.holding.specs.Bus.{isBus, freedBy}
 use Rattle.assurance.specs.Same.{ninthOf, marked, ReadSet, Harmless}
@@ -133,9 +133,9 @@ module _ (A : ℕ → Bool) (t : Bool) (h : State) (m : List ℕ) (r : State) (n
       → Both A t h m r n (eventOn p x h m .state) (eventOn p x h m .memory) (eventOn p x r n .state) (eventOn p x r n .memory)
   unfolding eventOn powerWithin
   world-on On (onWire x) b q u = absurd (true≢false b)
-  world-on On second b q u =
+  world-on On (beat t′) b q u =
       record {
-        alike = record { power = refl; near = ticks; dark = refl; dark₂ = refl };
+        alike = record { power = a .power; near = ticks; dark = a .dark; dark₂ = a .dark₂ };
         phases = λ z. z;
         placed = placed-ticks;
         rest = λ z. z;
@@ -169,7 +169,7 @@ module _ (A : ℕ → Bool) (t : Bool) (h : State) (m : List ℕ) (r : State) (n
       }
   world-on On returned b q u = both-same
   world-on Backup (onWire x) b q u = absurd (true≢false b)
-  world-on Backup second b q u =
+  world-on Backup (beat t′) b q u =
       record {
         alike = record { power = a .power; near = ticks; dark = a .dark; dark₂ = a .dark₂ };
         phases = λ z. z;
@@ -192,7 +192,7 @@ module _ (A : ℕ → Bool) (t : Bool) (h : State) (m : List ℕ) (r : State) (n
         rest = λ z. z;
       }
   world-on Off (onWire x) b q u = absurd (true≢false b)
-  world-on Off second b q u = both-same
+  world-on Off (beat t′) b q u = both-same
   world-on Off lost b q u = both-same
   world-on Off gone b q u = both-same
   world-on Off returned b q u =
@@ -269,7 +269,7 @@ module _ (A : ℕ → Bool) (h : State) (m : List ℕ) (r : State) (n : List ℕ
 
     mine-on : (x : Happening) → ReadSet t (h .phase) x → Next (marked t (h .phase) x) (h .power) x
     mine-on (onWire x) s = wire-on (h .power) x s
-    mine-on second s = world-together t second refl g
+    mine-on (beat t′) s = world-together t (beat t′) refl g
     mine-on lost s = lessened false never (world-together t lost refl g)
     mine-on gone s = lessened false never (world-together t gone refl g)
     mine-on returned s = world-together t returned refl g
@@ -318,7 +318,7 @@ module _ (A : ℕ → Bool) (h : State) (m : List ℕ) (r : State) (n : List ℕ
     their-on : (x : Happening) → isBus x ≡ true → Harmless A h x
         → Apart A (eventOn (h .power) x h m .state) (eventOn (h .power) x h m .memory) r n
     their-on (onWire x) b s = their-wire (h .power) x refl s
-    their-on second b s = never b
+    their-on (beat t′) b s = never b
     their-on lost b s = never b
     their-on gone b s = never b
     their-on returned b s = never b
@@ -356,17 +356,17 @@ module _ (h : State) (m : List ℕ) (f t : Bool) (d : powerWithin (h .power) (h 
   rests-on On (onWire start) e = never
   rests-on On (onWire stop) e = λ z. (refl, refl)
   rests-on On (onWire (clock b)) e = λ z. clock-rests (h .phase) b (q z .0) (q z .1)
-  rests-on On second e = q
+  rests-on On (beat t′) e = q
   rests-on On lost e = λ z. (refl, refl)
   rests-on On gone e = λ z. (refl, refl)
   rests-on On returned e = q
   rests-on Backup (onWire x) e = off-rests x (idle-of (h .phase) (rw e at d))
-  rests-on Backup second e = q
+  rests-on Backup (beat t′) e = q
   rests-on Backup lost e = λ z. (idle-of (h .phase) (rw e at d), refl)
   rests-on Backup gone e = λ z. (refl, refl)
   rests-on Backup returned e = q
   rests-on Off (onWire x) e = off-rests x (idle-of (h .phase) (rw e at d))
-  rests-on Off second e = q
+  rests-on Off (beat t′) e = q
   rests-on Off lost e = λ z. (idle-of (h .phase) (rw e at d), refl)
   rests-on Off gone e = λ z. (idle-of (h .phase) (rw e at d), refl)
   rests-on Off returned e = q

@@ -17,7 +17,7 @@ use Rattle.bus.specs.declared.Power.{Power}
 use Rattle.bus.specs.declared.Power.the-variants.{On, Backup, Off}
 use Rattle.companion.specs.Part.{pinOf}
 use Rattle.companion.specs.declared.Companion.{Companion as Desk}
-use Rattle.device.specs.Event.{Happening, onWire, second, lost, gone, returned, happening, eventOn, eventOf}
+use Rattle.device.specs.Event.{Happening, onWire, beat, lost, gone, returned, happening, eventOn, eventOf}
 use Rattle.device.specs.Answer.{pinShown, answerByte}
 use Rattle.device.specs.declared.State.{State}
 use Rattle.lists.specs.Run.{runOf}
@@ -47,7 +47,7 @@ read-set : (A : ℕ → Bool) (t v : Bool) (s : State) (x : Happening) → ReadI
 read-set A t v s (onWire start) g = tt
 read-set A t v s (onWire stop) g = tt
 read-set A t v s (onWire (clock d)) g = read-at A t v s (s .phase) g
-read-set A t v s second g = tt
+read-set A t v s (beat t′) g = tt
 read-set A t v s lost g = tt
 read-set A t v s gone g = tt
 read-set A t v s returned g = tt
@@ -95,17 +95,17 @@ module _ (A : ℕ → Bool) (t v : Bool) (h : State) (m : List ℕ) (r : State) 
   shows-on On (onWire start) s = record { line = refl; phase = refl; place = g .place }
   shows-on On (onWire stop) s = record { line = refl; phase = refl; place = never }
   shows-on On (onWire (clock d)) s = clock-shows d s
-  shows-on On second s = record { line = refl; phase = g .phase; place = g .place }
+  shows-on On (beat t′) s = record { line = refl; phase = g .phase; place = g .place }
   shows-on On lost s = record { line = refl; phase = refl; place = never }
   shows-on On gone s = record { line = refl; phase = refl; place = never }
   shows-on On returned s = record { line = refl; phase = g .phase; place = g .place }
   shows-on Backup (onWire x) s = unheard-shows x _
-  shows-on Backup second s = record { line = refl; phase = g .phase; place = g .place }
+  shows-on Backup (beat t′) s = record { line = refl; phase = g .phase; place = g .place }
   shows-on Backup lost s = record { line = refl; phase = g .phase; place = never }
   shows-on Backup gone s = record { line = refl; phase = refl; place = never }
   shows-on Backup returned s = record { line = refl; phase = g .phase; place = g .place }
   shows-on Off (onWire x) s = unheard-shows x _
-  shows-on Off second s = record { line = refl; phase = g .phase; place = g .place }
+  shows-on Off (beat t′) s = record { line = refl; phase = g .phase; place = g .place }
   shows-on Off lost s = record { line = refl; phase = g .phase; place = never }
   shows-on Off gone s = record { line = refl; phase = g .phase; place = never }
   shows-on Off returned s = record { line = refl; phase = g .phase; place = g .place }
@@ -155,7 +155,7 @@ there : (A : ℕ → Bool) (t v : Bool) (h r : State) (x : Happening) → h .pha
 there A t v h r (onWire start) e q g = tt
 there A t v h r (onWire stop) e q g = tt
 there A t v h r (onWire (clock d)) e q g = asked-there A t v h r (r .phase) q (subst (λ (p : Phase). ReadInAt A t v h p) e g)
-there A t v h r second e q g = tt
+there A t v h r (beat t′) e q g = tt
 there A t v h r lost e q g = tt
 there A t v h r gone e q g = tt
 there A t v h r returned e q g = tt

@@ -19,7 +19,7 @@ use Rattle.wire.specs.declared.Side.the-variants.{Memory, Companion}
 use Rattle.wire.specs.declared.Phase.{Phase}
 use Rattle.wire.specs.declared.Phase.the-variants.{Idle, Slave, AddressHigh, AddressLow, Pointer, Write, Read}
 use Rattle.device.specs.Chip.{memorySize}
-use Rattle.device.specs.Event.{Happening, onWire, second, lost, gone, returned, happening, eventOf}
+use Rattle.device.specs.Event.{Happening, onWire, beat, lost, gone, returned, happening, eventOf}
 use Rattle.device.specs.declared.State.{State}
 use Rattle.lists.specs.Run.{runOf}
 use Rattle.holding.specs.Bus.{sameMaster, frees}
@@ -41,7 +41,7 @@ abbrev pub marked : Bool → Phase → Happening → Bool
 marked t p (onWire start) = t
 marked t p (onWire stop) = false
 marked t p (onWire (clock d)) = ninthOf t p
-marked t p second = t
+marked t p (beat t′) = t
 marked t p lost = false
 marked t p gone = false
 marked t p returned = t
@@ -62,7 +62,7 @@ abbrev pub ReadSet : Bool → Phase → Happening → Type 0
 ReadSet t p (onWire start) = Unit {0}
 ReadSet t p (onWire stop) = Unit {0}
 ReadSet t p (onWire (clock d)) = ReadAt t p
-ReadSet t p second = Unit {0}
+ReadSet t p (beat t′) = Unit {0}
 ReadSet t p lost = Unit {0}
 ReadSet t p gone = Unit {0}
 ReadSet t p returned = Unit {0}
@@ -94,7 +94,7 @@ abbrev pub Harmless : (ℕ → Bool) → State → Happening → Type 0
 Harmless A s (onWire start) = Unit {0}
 Harmless A s (onWire stop) = Unit {0}
 Harmless A s (onWire (clock d)) = HarmlessAt A s (s .phase)
-Harmless A s second = Unit {0}
+Harmless A s (beat t′) = Unit {0}
 Harmless A s lost = Unit {0}
 Harmless A s gone = Unit {0}
 Harmless A s returned = Unit {0}
@@ -156,7 +156,7 @@ abbrev pub placedBy : Bool → Phase → Happening → Bool
 placedBy v p (onWire start) = v
 placedBy v p (onWire stop) = false
 placedBy v p (onWire (clock d)) = ninthLow v p
-placedBy v p second = v
+placedBy v p (beat t′) = v
 placedBy v p lost = false
 placedBy v p gone = false
 placedBy v p returned = v
@@ -176,7 +176,7 @@ abbrev pub ReadIn : (ℕ → Bool) → Bool → Bool → State → Happening →
 ReadIn A t v s (onWire start) = Unit {0}
 ReadIn A t v s (onWire stop) = Unit {0}
 ReadIn A t v s (onWire (clock d)) = ReadInAt A t v s (s .phase)
-ReadIn A t v s second = Unit {0}
+ReadIn A t v s (beat t′) = Unit {0}
 ReadIn A t v s lost = Unit {0}
 ReadIn A t v s gone = Unit {0}
 ReadIn A t v s returned = Unit {0}

@@ -39,7 +39,8 @@ pub record BusLimits (size : ℕ) (names : ℕ → Named) (first last : ℕ) (u 
   pub power : powerWithin (u .power) (u .phase) ≡ true
 
 module _ (size select first last : ℕ) where
-  pub bus-limits-of : (u : Bus) → busWithin size select first last u ≡ true → BusLimits size (slaveNamesFor select) first last u
+  pub bus-limits-of : (u : Bus) → busWithin size select first last u ≡ true → BusLimits size (slaveNamesFor select)
+      first last u
   unfolding busWithin
   bus-limits-of u e =
       let h = and-split _ (powerWithin (u .power) (u .phase)) e in
@@ -47,7 +48,8 @@ module _ (size select first last : ℕ) where
       (h .0) in
       record { address = ltb-true (u .address) size (g .0); phase = g .1; power = h .1 }
 
-  pub of-bus-limits : (u : Bus) → BusLimits size (slaveNamesFor select) first last u → busWithin size select first last u ≡ true
+  pub of-bus-limits : (u : Bus) → BusLimits size (slaveNamesFor select) first last u → busWithin size select first last
+      u ≡ true
   unfolding busWithin
   of-bus-limits u l = rw (lt-ltb (u .address) size (l .address), l .phase, l .power)
 

@@ -47,10 +47,10 @@ module _ (size : ℕ) (names : ℕ → Named) (D : Desks) where
       done (record { power = On; phase = o .state .phase; address = o .state .memory .address }) (o .state .companion)
       (o .state .memory .bytes) (o .line)
 
-  -- Each event under each supply. "A tick counts if .. power or backup is present"; "While off, bus events do nothing and
-  -- a Clock's line is the master's. Event 6 while off with backup takes the backup away; event 5 while off, or 6 when
-  -- both supplies are already gone, changes nothing. Event 7 while on changes nothing; after backup it sets POR" (the
-  -- companion's `returned`); after both supplies were gone it "changes only the power".
+  -- Each event under each supply. "A tick counts if .. power or backup is present"; "While off, bus events do nothing
+  -- and a Clock's line is the master's. Event 6 while off with backup takes the backup away; event 5 while off, or 6
+  -- when both supplies are already gone, changes nothing. Event 7 while on changes nothing; after backup it sets POR"
+  -- (the companion's `returned`); after both supplies were gone it "changes only the power".
   unfoldable pub eventOn : Power → Happening → Bus → D .Desk → List ℕ → Done
   eventOn On (onWire x) u c m = doneOf (lined (partOf size names D) (u .phase) (lent m (u .address)) c x)
   eventOn On (beat t) u c m = done u (D .ticked t c) m true

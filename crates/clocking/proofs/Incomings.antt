@@ -22,7 +22,8 @@ use Rattle.wire.specs.declared.Phase.{Phase}
 use Rattle.wire.specs.declared.Phase.the-variants.{Idle, Slave, AddressHigh, AddressLow, Pointer, Write, Read}
 use Rattle.wire.proofs.Clock.{received-inside, received-last, received-ack}
 use Rattle.companion.specs.Part.{guardOf}
-use Rattle.device.specs.Bus.{withPhase, clockedWith}
+use Rattle.device.specs.Bus.{clockedWith}
+use Rattle.device.proofs.Cases.{withPhase}
 use Rattle.device.specs.Chip.{memorySize, Done}
 use Rattle.device.specs.declared.State.{State}
 use Rattle.frame.specs.Layout.{transferOf}

@@ -11,18 +11,52 @@ use lib.Dec.{eqb}
 use borrow.Author.Tests.{eqb-true, eqb-false}
 use Rattle.weights.proofs.Cases.{by-cond}
 use Rattle.wire.specs.Memory.{Cells, lent}
-use Rattle.wire.specs.Machine.{clock, out, clocked}
+use Rattle.wire.specs.Machine.{Line, clock, mastersLine, out, clocked}
 use Rattle.wire.specs.declared.Phase.{Phase}
 use Rattle.wire.specs.declared.Phase.the-variants.{Idle}
 use Rattle.calendar.specs.declared.Rolled.the-variants.{Nothing}
 use Rattle.bus.specs.declared.Power.{Power}
 use Rattle.bus.specs.declared.Power.the-variants.{On, Backup, Off}
+use Rattle.bus.specs.Event.{resting}
+use Rattle.bus.specs.Event as bus
+use Rattle.bus.specs.Outcome as outcome
+use Rattle.bus.specs.declared.Beat.{Beat}
+use Rattle.bus.specs.declared.Beat.the-variants.{Second}
+use Rattle.companion.specs.Part.{tickOf, backedOf, lostOf, returnedOf}
 use Rattle.companion.specs.declared.Companion.{Companion}
-use Rattle.device.specs.Chip.{fm3130}
-use Rattle.device.specs.Bus.{clockedWith}
+use Rattle.device.specs.Chip.{fm3130, busOf, stateWith, Done}
+use Rattle.device.specs.Bus.{withCompanion, clockedWith}
 use Rattle.device.specs.Power.{isSupplied}
-use Rattle.device.specs.Event.{Happening, onWire, second, returned, happening, still, unheard, ticked, eventOn, rolledBy, rolledIn}
+use Rattle.device.specs.Event.{Happening, onWire, beat, second, returned, happening, eventOn, rolledBy, rolledIn}
 use Rattle.device.specs.declared.State.{State}
+
+-- an event that touches no memory and leaves the line high; one that is not heard; a tick that counts
+abbrev pub still : State → List ℕ → Done
+still s m = record { state = s; memory = m; line = true }
+
+abbrev pub unheard : State → List ℕ → Line → Done
+unheard s m x = record { state = s; memory = m; line = mastersLine x }
+
+abbrev pub ticked : State → State
+ticked s = withCompanion s (tickOf (s .companion))
+
+-- a state in another phase
+abbrev pub withPhase : State → Phase → State
+withPhase s p = stateWith (outcome.withPhase (busOf s) p) (s .companion)
+
+-- the state after main power was lost with backup; with both supplies gone; after main power returned to backup, to
+-- none
+abbrev pub backedUp : State → State
+backedUp s = stateWith (resting Backup) (backedOf (s .companion))
+
+abbrev pub dark : State
+dark = stateWith (resting Off) lostOf
+
+abbrev pub restored : State → State
+restored s = stateWith (bus.powered (busOf s)) (returnedOf (s .companion))
+
+abbrev pub powered : State → State
+powered s = stateWith (bus.powered (busOf s)) (s .companion)
 
 -- a Clock outside a transfer leaves the state as it is
 idle-clocked : (p : Phase) (m : Cells) (c : Companion) (d : Bool) → p ≡ Idle → clocked fm3130 p m c d ≡ out fm3130 p m c d
@@ -50,24 +84,25 @@ unfolding happening
 happening-returned e h k a b c d f = let seven : e ≡ 7 = omega arith in rw seven
 
 -- a tick with a supply goes to the companion, one without changes nothing
-tick-by : (p : Power) (s : State) (m : List ℕ) → s .power ≡ p → isSupplied p ≡ true
-    → eventOn p second s m ≡ still (ticked s) m
+tick-by : (p : Power) (t : Beat) (s : State) (m : List ℕ) → isSupplied p ≡ true → eventOn p (beat t) s m ≡ still
+    (ticked s) m
 unfolding eventOn
-tick-by On s m e h = rw e
-tick-by Backup s m e h = refl
-tick-by Off s m e h = absurd (false≢true h)
+tick-by On t s m h = refl
+tick-by Backup t s m h = refl
+tick-by Off t s m h = absurd (false≢true h)
 
 pub tick-supplied : (s : State) (m : List ℕ) → isSupplied (s .power) ≡ true → eventOn (s .power) second s m ≡ still (ticked s) m
-tick-supplied s m h = tick-by (s .power) s m refl h
+tick-supplied s m h = tick-by (s .power) Second s m h
 
-tick-without : (p : Power) (s : State) (m : List ℕ) → isSupplied p ≡ false → eventOn p second s m ≡ still s m
+tick-without : (p : Power) (t : Beat) (s : State) (m : List ℕ) → isSupplied p ≡ false → eventOn p (beat t) s m ≡ still
+    s m
 unfolding eventOn
-tick-without On s m h = absurd (true≢false h)
-tick-without Backup s m h = absurd (true≢false h)
-tick-without Off s m h = refl
+tick-without On t s m h = absurd (true≢false h)
+tick-without Backup t s m h = absurd (true≢false h)
+tick-without Off t s m h = refl
 
 pub tick-unsupplied : (s : State) (m : List ℕ) → isSupplied (s .power) ≡ false → eventOn (s .power) second s m ≡ still s m
-tick-unsupplied s m h = tick-without (s .power) s m h
+tick-unsupplied s m h = tick-without (s .power) Second s m h
 
 -- an event that is no tick says nothing
 pub no-tick : (s : State) (e : ℕ) → eqb e 4 ≡ false → rolledIn s e ≡ Nothing
@@ -79,4 +114,5 @@ no-tick s e h =
     (λ q. by-cond Q (eqb e 2) (λ q. refl)
     (λ q. by-cond Q (eqb e 3) (λ q. refl)
     (λ q. by-cond Q (eqb e 4) (λ q. absurd (true≢false (sym q ∙ h)))
-    (λ q. by-cond Q (eqb e 5) (λ q. refl) (λ q. by-cond Q (eqb e 6) (λ q. refl) (λ q. refl)))))))
+    (λ q. by-cond Q (eqb e 5) (λ q. refl)
+    (λ q. by-cond Q (eqb e 6) (λ q. refl) (λ q. by-cond Q (eqb e 7) (λ q. refl) (λ q. refl))))))))

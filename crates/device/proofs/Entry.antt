@@ -29,9 +29,12 @@ use Rattle.device.specs.Step.{Ready, refused, answered, stepOf, StepSett
 use Rattle.device.specs.declared.State.{State}
 use Rattle.device.specs.declared.Stepped.{Stepped}
 
--- a phase has the limits of one of a part with select bits 00 whose companion's addresses begin at 0
+-- a phase has the limits of one of a part whose companion's addresses begin at 0; and of one with select bits 00
+pub legal-phase : (p : Phase) → phaseWithin slaveNames (isBetween 0 LAST) p ≡ phaseWithin slaveNames isLegal p
+legal-phase p = ap (λ legal. phaseWithin slaveNames legal p) (from-zero LAST)
+
 pub lone-phase : (p : Phase) → phaseWithin (slaveNamesFor lone) (isBetween 0 LAST) p ≡ phaseWithin slaveNames isLegal p
-lone-phase p = lone-within (isBetween 0 LAST) p ∙ ap (λ legal. phaseWithin slaveNames legal p) (from-zero LAST)
+lone-phase p = lone-within (isBetween 0 LAST) p ∙ legal-phase p
 
 -- the limits of a state, one by one
 pub record Limits (s : State) : Type 0 where

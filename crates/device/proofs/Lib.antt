@@ -3,5 +3,4 @@ pub mod Cases
 pub mod Entry
 pub mod Wellformed
 pub mod Valid
-pub mod OnBus
 pub mod Telling

@@ -11,7 +11,7 @@ use native.Mathlib.Omega.{arith}
 use lib.ListN.{length}
 use Rattle.wire.specs.Limits.{phaseWithin}
 use Rattle.wire.specs.declared.Phase.the-variants.{Idle}
-use Rattle.bus.specs.Select.{lone, slaveNamesFor}
+use Rattle.wire.specs.Slave.{slaveNames}
 use Rattle.bus.specs.Event as bus
 use Rattle.bounds.specs.Limits.{powerWithin}
 use Rattle.bus.specs.declared.Power.{Power}
@@ -22,14 +22,13 @@ use Rattle.registers.specs.Map.{LAST}
 use Rattle.companion.specs.Part.{isWithin}
 use Rattle.companion.proofs.Address.{aim-acknowledged}
 use Rattle.companion.proofs.Within.{aim-within, store-within, loaded-within, tick-within, backed-within, lost-within, returned-within}
-use Rattle.device.specs.Chip.{memorySize, Done}
+use Rattle.device.specs.Chip.{memorySize, Done, busOf, stateWith}
 use Rattle.device.specs.Power.{fresh}
-use Rattle.device.specs.Event.{happening, eventOf}
+use Rattle.device.specs.Event.{happening, eventOn, eventOf}
 use Rattle.device.specs.Limits.{wellFormed}
-use Rattle.device.specs.OnBus.{companion30, busOf, stateWith}
+use Rattle.device.specs.Desk.{companion30}
 use Rattle.device.specs.declared.State.{State}
-use Rattle.device.proofs.Entry.{lone-phase, limits-of, of-limits}
-use Rattle.device.proofs.OnBus.{onBus, event-on-bus}
+use Rattle.device.proofs.Entry.{legal-phase, limits-of, of-limits}
 
 -- the companion keeps its limits
 keeps : DeskKeeps 0 LAST companion30
@@ -53,27 +52,26 @@ pub record DoneOk (d : Done) : Type 0 where
 
 -- every event keeps a well-formed state well-formed
 pub event-ok : (s : State) (m : List ℕ) (e : ℕ) → wellFormed s ≡ true → length m ≡ memorySize → DoneOk (eventOf s m e)
-unfolding keeps
+unfolding keeps eventOn
 event-ok s m e w h =
     let l = limits-of s w in
-    let d : bus.Done memorySize (slaveNamesFor lone) companion30 =
-    bus.eventOn memorySize (slaveNamesFor lone) companion30 (s .power) (onBus (happening e)) (busOf s) (s .companion) m in
-    let k : Keeps.DoneOk memorySize (slaveNamesFor lone) 0 LAST (omega arith) companion30 keeps d =
-    event-keeps memorySize (slaveNamesFor lone) 0 LAST (omega arith) companion30 keeps (busOf s) (s .companion) m
-    (record { address = l .address; phase = lone-phase (s .phase) ∙ l .phase; power = l .power }) (l .companion) h
-    (s .power) (onBus (happening e)) in
-    rw (event-on-bus s m (s .power) (happening e) refl)
-    (record {
+    let d : bus.Done memorySize slaveNames companion30 =
+    bus.eventOn memorySize slaveNames companion30 (s .power) (happening e) (busOf s) (s .companion) m in
+    let k : Keeps.DoneOk memorySize slaveNames 0 LAST (omega arith) companion30 keeps d =
+    event-keeps memorySize slaveNames 0 LAST (omega arith) companion30 keeps (busOf s) (s .companion) m
+    (record { address = l .address; phase = legal-phase (s .phase) ∙ l .phase; power = l .power }) (l .companion) h
+    (s .power) (happening e) in
+    record {
       state =
           of-limits (stateWith (d .bus) (d .companion))
           (record {
             address = k .bus .address;
             companion = k .companion;
-            phase = sym (lone-phase (d .bus .phase)) ∙ k .bus .phase;
+            phase = sym (legal-phase (d .bus .phase)) ∙ k .bus .phase;
             power = k .bus .power;
           });
       memory = k .memory;
-    })
+    }
 
 idle-power : (p : Power) → powerWithin p Idle ≡ true
 unfolding powerWithin

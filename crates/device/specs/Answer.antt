@@ -4,17 +4,8 @@
 -- Assumes nothing.
 use Prim.Native.Nat.{ℕ, _+_, _*_}
 use mathlib.Core.Bool.{Bool, cond}
-use Rattle.bus.specs.declared.Power.{Power}
-use Rattle.bus.specs.declared.Power.the-variants.{On, Backup, Off}
-use Rattle.companion.specs.Part.{pinOf}
-use Rattle.companion.specs.declared.Companion.{Companion}
+pub use Rattle.device.specs.Desk.{pinShown}
 use Rattle.device.specs.declared.State.{State}
-
--- The pin's function and its bit 3, as bits 1 to 3. "Released whenever power is lost with no backup."
-abbrev pub pinShown : Power → Companion → ℕ
-pinShown On c = pinOf c
-pinShown Backup c = pinOf c
-pinShown Off c = 0
 
 abbrev pub answerByte : State → Bool → ℕ
 answerByte s line = 2 * pinShown (s .power) (s .companion) + cond line 1 0

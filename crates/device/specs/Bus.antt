@@ -1,6 +1,6 @@
 -- SPDX-License-Identifier: Apache-2.0
--- A state in another phase, with another companion, and after a Clock in a phase. Auxiliary to `Event` and to the contracts
--- of the crates that do an event where the device lies.
+-- A state with another companion, and after a Clock in a phase. Auxiliary to the contracts of the crates that do an
+-- event where the device lies.
 -- Assumes nothing.
 use Prim.Native.Nat.{ℕ}
 use mathlib.Core.Bool.{Bool}
@@ -11,9 +11,6 @@ use Rattle.wire.specs.declared.Phase.{Phase}
 use Rattle.companion.specs.declared.Companion.{Companion}
 use Rattle.device.specs.Chip.{fm3130, Done}
 use Rattle.device.specs.declared.State.{State}
-
-abbrev pub withPhase : State → Phase → State
-withPhase s p = record { power = s .power; phase = p; address = s .address; companion = s .companion }
 
 abbrev pub withCompanion : State → Companion → State
 withCompanion s c = record { power = s .power; phase = s .phase; address = s .address; companion = c }

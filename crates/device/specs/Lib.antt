@@ -4,7 +4,7 @@ pub mod Chip
 pub mod Bus
 pub mod Power
 pub mod Event
-pub mod OnBus
+pub mod Serving
 pub mod Answer
 pub mod Limits
 pub mod Step

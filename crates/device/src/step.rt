@@ -4,7 +4,7 @@ ghost use mathlib.Core.Path.{_≡_};
 ghost use Prim.Native.Nat.{_≤_};
 ghost use Rattle.device.specs.Power.{fresh};
 ghost use Rattle.device.specs.Event.{eventOf, rolledIn};
-ghost use Rattle.device.specs.OnBus.{busOf, stateWith};
+ghost use Rattle.device.specs.Chip.{busOf, stateWith};
 ghost use Rattle.device.specs.Step.{Ready, AnsweredWith, ToldWith};
 ghost use Rattle.device.specs.Step.{refusal, acceptance, StepSettled};
 use crate::Answered;

@@ -218,7 +218,8 @@ tock-after n p h (edge-two w) e = rw (edge-heard-two n p w, e, edge-own-two w) (
 
 -- a tick or edge leaves the line high, under any supply
 on-beat : (h : Held) (t : Beat) (w : Power)
-    → eventOn (sizeIn h) (slaveNamesFor (selectIn h)) companion31 w (beat t) (h .member .state .bus) (h .member .state .counters)
+    → eventOn (sizeIn h) (slaveNamesFor (selectIn h)) companion31 w (beat t) (h .member .state .bus)
+    (h .member .state .counters)
     (h .memory) .line ≡ true
 unfolding eventOn
 on-beat h t On = refl
@@ -269,7 +270,8 @@ module _ (t₀ : Together) where
       (u .memory .bytes)
 
   own-event : (p : Place) (u : S p) (e : Event Beat)
-      → doneIn (heldM p u) (ownByteOf e) ≡ doneOf (sizeIn (at p t₀)) (slaveNamesFor (selectIn (at p t₀))) companion31 (step (partAt
+      → doneIn (heldM p u) (ownByteOf e) ≡ doneOf (sizeIn (at p t₀)) (slaveNamesFor (selectIn (at p t₀))) companion31
+      (step (partAt
       t₀ p) u e)
   unfolding happening eventOn
   own-event p u (line x) = line-event (sizeIn (at p t₀)) (slaveNamesFor (selectIn (at p t₀))) companion31 (u .phase) (u

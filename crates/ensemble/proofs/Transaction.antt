@@ -163,14 +163,16 @@ rests-next On h k q x e m r =
       ap (λ (z : Held). doneIn z (lineByte x) .line) (r .1) ∙ ap (λ d. d .line) o,
     )
 rests-next Backup h k q x e m r =
-    let o = backup-event (sizeIn h) (slaveNamesFor (selectIn h)) companion31 (h .member .state .bus) (h .member .state .counters)
+    let o = backup-event (sizeIn h) (slaveNamesFor (selectIn h)) companion31 (h .member .state .bus)
+    (h .member .state .counters)
     (h .memory) x e in (
       ap (λ (z : Held). afterOwn z (lineByte x)) r ∙ ap (left h) o,
       ap (λ (z : Held). doneIn z (lineByte x) .line) r
           ∙ ap (λ d. d .line) o,
     )
 rests-next Off h k q x e m r =
-    let o = off-event (sizeIn h) (slaveNamesFor (selectIn h)) companion31 (h .member .state .bus) (h .member .state .counters)
+    let o = off-event (sizeIn h) (slaveNamesFor (selectIn h)) companion31 (h .member .state .bus)
+    (h .member .state .counters)
     (h .memory) x e in (
       ap (λ (z : Held). afterOwn z (lineByte x)) r ∙ ap (left h) o,
       ap (λ (z : Held). doneIn z (lineByte x) .line) r
@@ -192,7 +194,8 @@ line-below-in Backup h x e t =
     sym (ap (λ d. d .line) (backup-event (sizeIn h) (slaveNamesFor (selectIn h)) companion31 (h .member .state .bus) (h
     .member .state .counters) (h .memory) x e)) ∙ t
 line-below-in Off h x e t =
-    sym (ap (λ d. d .line) (off-event (sizeIn h) (slaveNamesFor (selectIn h)) companion31 (h .member .state .bus) (h .member
+    sym (ap (λ d. d .line) (off-event (sizeIn h) (slaveNamesFor (selectIn h)) companion31 (h .member .state .bus)
+    (h .member
     .state .counters) (h .memory) x e)) ∙ t
 
 -- others' whole transactions leave a device as it was

@@ -113,7 +113,8 @@ unfolding keeps
 event-ok size select z s m e w h =
     let l = limits-of size select s w in
     let k : DoneOk size (slaveNamesFor select) FIRST LAST z companion31 keeps (eventOf size select s m e) =
-    event-keeps size (slaveNamesFor select) FIRST LAST z companion31 keeps (s .bus) (s .counters) m (l .bus) (l .counters) h (s
+    event-keeps size (slaveNamesFor select) FIRST LAST z companion31 keeps (s .bus) (s .counters) m (l .bus)
+    (l .counters) h (s
     .bus .power)
     (happening edges e) in
     record { state = of-limits size select _ (record { bus = k .bus; counters = k .companion }); memory = k .memory }

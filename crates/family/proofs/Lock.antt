@@ -42,7 +42,8 @@ module _ (c : Counters) (h : Locked c) where
 pub event-keeps-serial : (size select : ℕ) (s : State) (m : List ℕ) (e : ℕ) → Locked (s .counters)
     → SerialKept (s .counters) (eventOf size select s m e .companion)
 event-keeps-serial size select s m e l =
-    event-leaves companion31 (SerialKept (s .counters)) (s .counters) (all-keep (s .counters) l) size (slaveNamesFor select) (s .bus) m
+    event-leaves companion31 (SerialKept (s .counters)) (s .counters) (all-keep (s .counters) l) size
+    (slaveNamesFor select) (s .bus) m
     (s .bus .power) (happening edges e)
 
 chained : (b c d : Counters) → SerialKept b c → SerialKept c d → SerialKept b d

@@ -25,7 +25,8 @@ bus-byte e =
     (λ c. by-test (eqb e 3) (λ d. let z = eqb-true e 3 d in rw (a, b, c, d, le-leb e 3 (omega arith)) refl)
     (λ d. rw (a, b, c, d, lt-leb e 3 (above e (eqb-false e 0 a) (eqb-false e 1 b) (eqb-false e 2 c) (eqb-false e 3 d)))
     (by-test (eqb e 4) (λ f. rw f refl)
-    (λ f. by-test (eqb e 5) (λ g. rw (f, g) refl) (λ g. by-test (eqb e 6) (λ h. rw (f, g, h) refl) (λ h. rw (f, g, h) refl))))))))
+    (λ f. by-test (eqb e 5) (λ g. rw (f, g) refl) (λ g. by-test (eqb e 6) (λ h. rw (f, g, h) refl)
+    (λ h. by-test (eqb e 7) (λ i. rw (f, g, h, i) refl) (λ i. rw (f, g, h, i) refl)))))))))
   where
     above : (e : ℕ) → (e ≡ 0 → ⊥) → (e ≡ 1 → ⊥) → (e ≡ 2 → ⊥) → (e ≡ 3 → ⊥) → 3 < e
     above e p q r s = omega arith
@@ -51,4 +52,5 @@ unfolding happening
 freed-other f e p q r s =
     rw (ne-eqb e 0 p, ne-eqb e 1 q, ne-eqb e 5 r, ne-eqb e 6 s)
     (by-test (eqb e 2) (λ a. rw a refl) (λ a. by-test (eqb e 3) (λ b. rw (a, b) refl)
-    (λ b. by-test (eqb e 4) (λ c. rw (a, b, c) refl) (λ c. rw (a, b, c) refl))))
+    (λ b. by-test (eqb e 4) (λ c. rw (a, b, c) refl) (λ c. by-test (eqb e 7) (λ d. rw (a, b, c, d) refl)
+    (λ d. rw (a, b, c, d) refl)))))

@@ -15,7 +15,7 @@ use mathlib.Core.List.{List, [], _∷_}
 use lib.Dec.{leb, eqb}
 use lib.ListN.{length, getD}
 use Rattle.wire.specs.Machine.{start, stop, clock}
-use Rattle.device.specs.Event.{Happening, onWire, second, lost, gone, returned, happening}
+use Rattle.device.specs.Event.{Happening, onWire, beat, lost, gone, returned, happening}
 use Rattle.holding.specs.declared.Master.{Master}
 use Rattle.holding.specs.declared.Master.the-variants.{Rig, Handheld}
 use Rattle.holding.specs.declared.Holder.{Holder}
@@ -46,7 +46,7 @@ afterAsk (Held y) x = Held y
 -- "Any event 0 to 3"; "ticks and power events belong to neither".
 abbrev pub isBus : Happening → Bool
 isBus (onWire x) = true
-isBus second = false
+isBus (beat t′) = false
 isBus lost = false
 isBus gone = false
 isBus returned = false
@@ -64,7 +64,7 @@ abbrev pub freedBy : Bool → Happening → Bool
 freedBy f (onWire start) = false
 freedBy f (onWire stop) = true
 freedBy f (onWire (clock d)) = f
-freedBy f second = f
+freedBy f (beat t′) = f
 freedBy f lost = true
 freedBy f gone = true
 freedBy f returned = f

@@ -11,7 +11,7 @@ use lib.ListN.{length, getD}
 use lib.Seq.{sets}
 use Rattle.wire.specs.declared.Phase.{Phase}
 use Rattle.companion.specs.Part.{loadOf}
-use Rattle.device.specs.Bus.{withPhase}
+use Rattle.device.proofs.Cases.{withPhase}
 use Rattle.device.specs.Chip.{memorySize}
 use Rattle.device.specs.declared.State.{State}
 use Rattle.device.proofs.Entry.{ready}

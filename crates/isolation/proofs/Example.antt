@@ -22,18 +22,20 @@ use Rattle.wire.proofs.Tests.{and-split}
 use Rattle.calendar.specs.Field.{inField, stepOf}
 use Rattle.calendar.specs.Month.{monthLength}
 use Rattle.calendar.specs.Next.{isValid, nextOf, tickOf as countOf}
-use Rattle.companion.specs.Part.{aimOf, storeOf, tickOf}
-use Rattle.device.specs.Chip.{fm3130}
+use Rattle.companion.specs.Part.{aimOf, storeOf, tickOf, guardOf}
+use Rattle.device.specs.Desk.{companion30}
+use Rattle.device.specs.Chip.{memorySize, fm3130}
 use Rattle.device.specs.Event.{happening, eventOn}
 use Rattle.lists.specs.Run.{runOf}
+use Rattle.lists.specs.Held.{Held, Ran, held, listRun}
 use Rattle.merging.specs.Merge.{calling, moving, eventsOf}
 use Rattle.merging.specs.Party.{to, BusEvent, Whole}
 use Rattle.merging.specs.Demand.{WhereWritten, IfWritten, done, one, two, inside, Merge}
 use Rattle.merging.specs.Clocks.{clocks, bitsOf}
 use Rattle.merging.proofs.Reader.{moving-clocks}
 use Rattle.merging.proofs.Clocks.{slave-whole, first-clocks, second-clocks}
-use Rattle.isolation.specs.Demand3.{Held, afterEvent, afterEvents, byteOf, bytesOf, protection}
-use Rattle.isolation.specs.Demand3.{WritesSteadyIn, Demanded}
+use Rattle.parts.specs.Events.{event, heldBy}
+use Rattle.isolation.specs.Demand3.{byteOf, bytesOf, WritesSteadyIn, Demanded}
 use Rattle.isolation.specs.Example.{stored, register, value}
 use Rattle.isolation.specs.Example.{memoryList, companionList, mergedList, started}
 use Rattle.isolation.proofs.Demand3.{demand-three}
@@ -67,10 +69,15 @@ lists-merge =
     (second-clocks fm3130 (bitsOf value) moving (two done))))))))))
 
 -- no event at all changes the protection
+abbrev protection : Held → ℕ
+protection h = guardOf (h .companion)
+
+abbrev next : Held → BusEvent fm3130 → Held
+next h e = heldBy memorySize slaveNames companion30 (event memorySize slaveNames companion30 h (byteOf e))
+
 abbrev isSteady : Held → List (BusEvent fm3130) → Bool
 isSteady h [] = true
-isSteady h (e ∷ es) =
-    eqb (protection (afterEvent h (byteOf e))) (protection h) && isSteady (afterEvent h (byteOf e)) es
+isSteady h (e ∷ es) = eqb (protection (next h e)) (protection h) && isSteady (next h e) es
 
 where-written : (p : Phase) {X : Type 0} → X → WhereWritten p X
 where-written Idle h = tt
@@ -91,24 +98,28 @@ if-written p (tick t) h = tt
 steady-of-test : (h : Held) (es : List (BusEvent fm3130)) → isSteady h es ≡ true → WritesSteadyIn h es
 steady-of-test h [] t = tt
 steady-of-test h (e ∷ es) t =
-    let h′ = afterEvent h (byteOf e) in
+    let h′ = next h e in
     let b = and-split (eqb (protection h′) (protection h)) (isSteady h′ es) t in
-    (if-written (h .state .phase) e (eqb-true (protection h′) (protection h) (b .0)), steady-of-test h′ es (b .1))
+    (if-written (h .bus .phase) e (eqb-true (protection h′) (protection h) (b .0)), steady-of-test h′ es (b .1))
 
-pub writes-steady : (m : List ℕ) → WritesSteadyIn (started m) companionList
+pub writes-steady : (m : List ℕ) → WritesSteadyIn (held started m) companionList
 unfolding happening eventOn lined clocked receivedAt kept pushed sentBit placeAt
     opened answers slaveNames aimOf storeOf tickOf
-writes-steady m = steady-of-test (started m) companionList refl
+writes-steady m = steady-of-test (held started m) companionList refl
+
+-- the list run on that device
+abbrev run : List ℕ → List (BusEvent fm3130) → Ran
+run m es = listRun (held started m) (bytesOf es)
 
 pub example-demanded : (m : List ℕ)
-    → Demanded (started m) (bytesOf memoryList) (bytesOf companionList) (bytesOf (eventsOf mergedList)) mergedList
+    → Demanded (run m memoryList) (run m companionList) (run m (eventsOf mergedList)) mergedList
 example-demanded m =
-    demand-three (started m) memoryList companionList mergedList refl refl
+    demand-three (held started m) memoryList companionList mergedList refl refl
     memory-whole companion-whole lists-merge (writes-steady m)
 
-pub example-outcome : (m : List ℕ) → let h = afterEvents (started m) (bytesOf (eventsOf mergedList)) in
-    (h .memory ≡ set m 5 0x5A) × (h .state .address ≡ 6) × (h .state .companion .registers .alarm .seconds ≡ 0x15)
-    × (h .state .companion .address ≡ 0x0A) × (h .state .companion .core .seconds ≡ 2)
+pub example-outcome : (m : List ℕ) → let h = run m (eventsOf mergedList) .held in
+    (h .memory ≡ set m 5 0x5A) × (h .bus .address ≡ 6) × (h .companion .registers .alarm .seconds ≡ 0x15)
+    × (h .companion .address ≡ 0x0A) × (h .companion .core .seconds ≡ 2)
 unfolding runOf happening eventOn lined clocked receivedAt kept pushed sentBit placeAt opened answers slaveNames
     putByte aimOf storeOf tickOf nextOf isValid inField monthLength countOf stepOf
 example-outcome m = (refl, refl, refl, refl, refl)

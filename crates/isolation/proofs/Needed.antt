@@ -18,8 +18,9 @@ use Rattle.companion.specs.Part.{aimOf, storeOf, tickOf}
 use Rattle.device.specs.Chip.{fm3130}
 use Rattle.device.specs.Event.{happening, eventOn}
 use Rattle.lists.specs.Run.{runOf}
+use Rattle.lists.specs.Held.{Ran, held, listRun}
 use Rattle.merging.specs.Merge.{calling, moving, eventsOf}
-use Rattle.merging.specs.Party.{to, Whole}
+use Rattle.merging.specs.Party.{to, BusEvent, Whole}
 use Rattle.merging.specs.Demand.{done, one, two, Merge}
 use Rattle.merging.specs.Clocks.{clocks, bitsOf}
 use Rattle.merging.proofs.Reader.{moving-clocks}
@@ -48,15 +49,17 @@ unwritten : (m : List ℕ) → 5 < length m → (getD m 5 0 ≡ 0x5A → ⊥) �
 unwritten m h n e = n (ap (λ (z : List ℕ). getD z 5 0) e ∙ getD-set-same m 5 0x5A 0 h)
 
 module _ (m : List ℕ) (h : 5 < length m) (n : getD m 5 0 ≡ 0x5A → ⊥) where
+  abbrev run : List (BusEvent fm3130) → Ran
+  run es = listRun (held started m) (bytesOf es)
+
   pub protection-needed :
-      Demanded (started m) (bytesOf memoryList) (bytesOf protectingList)
-      (bytesOf (eventsOf protectedList)) protectedList → ⊥
+      Demanded (run memoryList) (run protectingList) (run (eventsOf protectedList)) protectedList → ⊥
   unfolding runOf happening eventOn lined clocked receivedAt kept pushed sentBit placeAt opened answers slaveNames
       putByte refusedByte aimOf storeOf
   protection-needed r = unwritten m h n (r .memory)
 
   pub turns-needed :
-      Demanded (started m) (bytesOf memoryList) (bytesOf companionList) (bytesOf (eventsOf brokenList)) brokenList → ⊥
+      Demanded (run memoryList) (run companionList) (run (eventsOf brokenList)) brokenList → ⊥
   unfolding runOf happening eventOn lined clocked receivedAt kept pushed sentBit placeAt opened answers slaveNames
       putByte aimOf storeOf tickOf
   turns-needed r = unwritten m h n (r .memory)

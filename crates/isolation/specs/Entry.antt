@@ -19,6 +19,7 @@ use Rattle.numbers.specs.Numbers.{accepted}
 use Rattle.device.specs.declared.State.{State}
 use Rattle.image.specs.Image.{decodeOf}
 use Rattle.lists.specs.Run.{outcomeOf}
+use Rattle.lists.specs.Held.{held}
 use Rattle.lists.specs.Calls.{Left, leftOf, Leaves}
 use Rattle.image.specs.declared.Decoded.the-variants.{Good}
 use Rattle.merging.specs.Merge.{eventsOf, picked}
@@ -51,7 +52,7 @@ pub record Asked (i m : List ℕ) (xs ys : List (BusEvent fm3130)) (l : List (Pa
   pub first : Whole fm3130 (to Memory) xs
   pub second : Whole fm3130 (to Companion) ys
   pub merge : Merge fm3130 xs ys l
-  pub steady : WritesSteadyIn (record { state = state; memory = m }) ys
+  pub steady : WritesSteadyIn (held state m) ys
 
 -- Demand 3, of what calls leave and answer.
 abbrev pub DemandThreeOfCalls : Type 0

@@ -3,7 +3,7 @@
 -- (alarm seconds), with one tick inside each.
 --   stored, register, value                         what is written
 --   memoryList, companionList, mergedList           the two lists and their merge
---   started                                         a running device between transfers, with any memory
+--   started                                         a running device between transfers
 -- Assumes nothing.
 use Prim.Native.Nat.{ℕ}
 use mathlib.Core.Bool.{Bool}
@@ -14,10 +14,10 @@ use Rattle.wire.specs.declared.Phase.the-variants.{Idle}
 use Rattle.bus.specs.declared.Power.the-variants.{On}
 use Rattle.companion.specs.Power.{lostDate}
 use Rattle.device.specs.Chip.{fm3130}
+use Rattle.device.specs.declared.State.{State}
 use Rattle.merging.specs.Merge.{by}
 use Rattle.merging.specs.Clocks.{clocks, clocksBy, bitsOf}
 use Rattle.merging.specs.Party.{to, BusEvent, PartyEvent}
-use Rattle.isolation.specs.Demand3.{Held}
 
 -- Auxiliary: the two address bytes and the data byte of the memory transaction; the register that the companion
 -- transaction writes, and its data byte.
@@ -48,27 +48,23 @@ mergedList =
     ∷ clocksBy c (bitsOf value) (by c (line stop) ∷ [])))))
 
 -- Main power present, no transfer, the oscillator running, no memory protected.
-abbrev pub started : List ℕ → Held
-started m =
+abbrev pub started : State
+started =
     record {
-      state =
+      power = On;
+      phase = Idle;
+      address = 0;
+      companion =
           record {
-            power = On;
-            phase = Idle;
-            address = 0;
-            companion =
+            registers =
                 record {
-                  registers =
-                      record {
-                        control = 0;
-                        trim = 0;
-                        time = lostDate;
-                        alarm = record { seconds = 0; minutes = 0; hours = 0; date = 0; month = 0 };
-                        setup = 0;
-                      };
-                  core = lostDate;
-                  address = 0;
+                  control = 0;
+                  trim = 0;
+                  time = lostDate;
+                  alarm = record { seconds = 0; minutes = 0; hours = 0; date = 0; month = 0 };
+                  setup = 0;
                 };
+            core = lostDate;
+            address = 0;
           };
-      memory = m;
     }

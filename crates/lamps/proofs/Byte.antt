@@ -27,7 +27,7 @@ use Rattle.bus.specs.declared.Power.{Power}
 use Rattle.bus.specs.declared.Power.the-variants.{On, Backup, Off}
 use Rattle.companion.specs.declared.Companion as Part
 use Rattle.device.specs.Chip.{fm3130}
-use Rattle.device.specs.Event.{Happening, onWire, second, lost, gone, returned, happening, eventOn}
+use Rattle.device.specs.Event.{Happening, onWire, beat, lost, gone, returned, happening, eventOn}
 use Rattle.device.specs.Answer.{answerByte, pinShown}
 use Rattle.device.specs.declared.State.{State}
 use Rattle.clocks.specs.Clocks.{isHigh}
@@ -180,21 +180,21 @@ module _ (x : Moment) (f : Follower) (c : History) (after : Phase) where
   reading-next On (onWire stop) a h = tt
   reading-next On (onWire (clock d)) a h =
       clock-reading x f c (refusing (s .phase) after) (s .phase) (lent (x .memory) (s .address)) (s .companion) d h
-  reading-next On second a h = h
+  reading-next On (beat t′) a h = h
   reading-next On lost a h = tt
   reading-next On gone a h = tt
   reading-next On returned a h = h
   reading-next Backup (onWire start) a h = idle-quiet (s .phase) a atRest c
   reading-next Backup (onWire stop) a h = idle-quiet (s .phase) a atRest c
   reading-next Backup (onWire (clock d)) a h = idle-quiet (s .phase) a (followed f (onWire (clock d)) s after (left x .line)) (x ∷ c)
-  reading-next Backup second a h = h
+  reading-next Backup (beat t′) a h = h
   reading-next Backup lost a h = idle-quiet (s .phase) a atRest c
   reading-next Backup gone a h = tt
   reading-next Backup returned a h = h
   reading-next Off (onWire start) a h = idle-quiet (s .phase) a atRest c
   reading-next Off (onWire stop) a h = idle-quiet (s .phase) a atRest c
   reading-next Off (onWire (clock d)) a h = idle-quiet (s .phase) a (followed f (onWire (clock d)) s after (left x .line)) (x ∷ c)
-  reading-next Off second a h = h
+  reading-next Off (beat t′) a h = h
   reading-next Off lost a h = idle-quiet (s .phase) a atRest c
   reading-next Off gone a h = idle-quiet (s .phase) a atRest c
   reading-next Off returned a h = h
@@ -203,17 +203,17 @@ module _ (x : Moment) (f : Follower) (c : History) (after : Phase) where
       → powerWithin (eventOn p y s (x .memory) .state .power) (eventOn p y s (x .memory) .state .phase) ≡ true
   unfolding eventOn lined powerWithin
   awake-next On (onWire y) q a = refl
-  awake-next On second q a = refl
+  awake-next On (beat t′) q a = rw q
   awake-next On lost q a = refl
   awake-next On gone q a = refl
   awake-next On returned q a = rw q
   awake-next Backup (onWire y) q a = rw q a
-  awake-next Backup second q a = rw q a
+  awake-next Backup (beat t′) q a = rw q a
   awake-next Backup lost q a = rw q a
   awake-next Backup gone q a = refl
   awake-next Backup returned q a = refl
   awake-next Off (onWire y) q a = rw q a
-  awake-next Off second q a = rw q a
+  awake-next Off (beat t′) q a = rw q a
   awake-next Off lost q a = rw q a
   awake-next Off gone q a = rw q a
   awake-next Off returned q a = refl
@@ -234,7 +234,7 @@ module _ (x : Moment) (f : Follower) (c : History) (after : Phase) where
   refused-next (onWire start) line r e = refl
   refused-next (onWire stop) line r e = refl
   refused-next (onWire (clock d)) line r e = gathered-refused (s .phase) (s .address) (refusing (s .phase) after) line
-  refused-next second line r e = e
+  refused-next (beat t′) line r e = e
   refused-next lost line r e = refl
   refused-next gone line r e = refl
   refused-next returned line r e = e
@@ -250,21 +250,21 @@ module _ (x : Moment) (f : Follower) (c : History) (after : Phase) where
   waiting-next On (onWire stop) h = no
   waiting-next On (onWire (clock d)) h =
       λ e. and-split (eqb (clocksOf (s .phase)) 7) (isIdle (eventOn On (onWire (clock d)) s (x .memory) .state .phase)) e .1
-  waiting-next On second h = h
+  waiting-next On (beat t′) h = h
   waiting-next On lost h = no
   waiting-next On gone h = no
   waiting-next On returned h = h
   waiting-next Backup (onWire start) h = no
   waiting-next Backup (onWire stop) h = no
   waiting-next Backup (onWire (clock d)) h = λ e. and-split (eqb (clocksOf (s .phase)) 7) (isIdle (s .phase)) e .1
-  waiting-next Backup second h = h
+  waiting-next Backup (beat t′) h = h
   waiting-next Backup lost h = no
   waiting-next Backup gone h = no
   waiting-next Backup returned h = h
   waiting-next Off (onWire start) h = no
   waiting-next Off (onWire stop) h = no
   waiting-next Off (onWire (clock d)) h = λ e. and-split (eqb (clocksOf (s .phase)) 7) (isIdle (s .phase)) e .1
-  waiting-next Off second h = h
+  waiting-next Off (beat t′) h = h
   waiting-next Off lost h = no
   waiting-next Off gone h = no
   waiting-next Off returned h = h
@@ -354,7 +354,7 @@ mark-at : (y : Happening) (k : ℕ) (d : Due) (u v : Bool) (a b i j : ℕ)
 mark-at (onWire start) k d u v a b i j e = refl
 mark-at (onWire stop) k d u v a b i j e = refl
 mark-at (onWire (clock z)) k d u v a b i j e = by-test (eqb k 8) (λ q. rw q (e q)) (λ q. rw q)
-mark-at second k d u v a b i j e = refl
+mark-at (beat t′) k d u v a b i j e = refl
 mark-at lost k d u v a b i j e = refl
 mark-at gone k d u v a b i j e = refl
 mark-at returned k d u v a b i j e = refl

@@ -15,7 +15,7 @@ use Rattle.wire.specs.declared.Phase.the-variants.{Idle, Slave, AddressHigh, Ad
 use Rattle.bounds.specs.Limits.{isIdle}
 use Rattle.bus.specs.declared.Power.{Power}
 use Rattle.bus.specs.declared.Power.the-variants.{On, Backup, Off}
-use Rattle.device.specs.Event.{Happening, onWire, second, lost, gone, returned, happening}
+use Rattle.device.specs.Event.{Happening, onWire, beat, lost, gone, returned, happening}
 use Rattle.device.specs.declared.State.{State}
 use Rattle.device.specs.declared.Answered.{Answered}
 use Rattle.clocks.specs.Clocks.{isHigh}
@@ -56,7 +56,7 @@ abbrev pub followed : Follower → Happening → State → Phase → Bool → Fo
 followed f (onWire start) s after line = atRest
 followed f (onWire stop) s after line = atRest
 followed f (onWire (clock d)) s after line = gathered (s .phase) f (s .address) (refusing (s .phase) after) line
-followed f second s after line = f
+followed f (beat t′) s after line = f
 followed f lost s after line = atRest
 followed f gone s after line = atRest
 followed f returned s after line = f

@@ -30,7 +30,8 @@ module _ (size : ℕ) (s : State) (m : List ℕ) where
   edge-under Off Cnt2 = refl
 
   tick-under : (p : Power)
-      → eventOn size (slaveNamesFor lone) companion31 p (happening edges 4) (s .bus) (s .counters) m ≡ left size s m (s .counters)
+      → eventOn size (slaveNamesFor lone) companion31 p (happening edges 4) (s .bus) (s .counters) m ≡ left size s m
+      (s .counters)
   unfolding happening eventOn
   tick-under On = refl
   tick-under Backup = refl

@@ -79,7 +79,8 @@ module _ (size : ℕ) where
   protection h = guardOf (h .companion)
 
   abbrev next : Held size (slaveNamesFor lone) companion31 → Event Beat → Held size (slaveNamesFor lone) companion31
-  next h e = heldBy size (slaveNamesFor lone) companion31 (event size (slaveNamesFor lone) companion31 h (byteOf size (slaveNamesFor lone) companion31 e))
+  next h e = heldBy size (slaveNamesFor lone) companion31 (event size (slaveNamesFor lone) companion31 h
+      (byteOf size (slaveNamesFor lone) companion31 e))
 
   abbrev isSteady : Held size (slaveNamesFor lone) companion31 → List (Event Beat) → Bool
   isSteady h [] = true
@@ -118,7 +119,7 @@ module _ (size : ℕ) where
 pub example-demanded : ExampleDemanded
 example-demanded k m =
     let size = sizeOf k in
-    demand-three size fresh m memoryList companionList mergedList refl refl
+    demand-three size (held size fresh m) memoryList companionList mergedList refl refl
     (memory-whole size) (companion-whole size) (lists-merge size) (writes-steady size m)
 
 pub example-outcome : ExampleOutcome

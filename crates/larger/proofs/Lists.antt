@@ -12,7 +12,8 @@ use Rattle.family.specs.Step.{stateOf}
 use Rattle.family.specs.Run.{runOf}
 use Rattle.family.specs.declared.State.{State}
 use Rattle.parts.specs.Events.{afterEvents, answersTo}
-use Rattle.larger.specs.Demand3.{held}
+use Rattle.parts.specs.Demand3.{oneByOne}
+use Rattle.larger.specs.Demand3.{held, listRun}
 
 module _ (size : ℕ) where
   pub run-held : (s : State) (m es : List ℕ)
@@ -34,3 +35,9 @@ module _ (size : ℕ) where
       let d = eventOf size lone s m e in
       let rest = answers-held (stateOf d) (d .memory) es in
       λ i. line-alone (d .line) i ∷ rest i
+
+  -- of both, as functions
+  pub list-run-is : oneByOne size (slaveNamesFor lone) companion31 ≡ listRun size
+  list-run-is =
+      λ i h es. let s : State = record { bus = h .bus; counters = h .companion } in
+      record { held = run-held s (h .memory) es i; answers = answers-held s (h .memory) es i }

@@ -48,7 +48,8 @@ module _ (size : ℕ) where
       rw (o .memory) (limits-of size lone (runOf size lone s m before .state) (o .state) .bus .address) in
       let b = run-held size s m before in
       let h = held size s m in
-      let low : Pulls size (slaveNamesFor lone) companion31 (afterEvents size (slaveNamesFor lone) companion31 h (before ++ byte)) =
+      let low : Pulls size (slaveNamesFor lone) companion31 (afterEvents size (slaveNamesFor lone) companion31 h
+      (before ++ byte)) =
       rw (run-held size s m (before ++ byte)) pulls in
       rw (b, run-held size s m (before ++ (byte ++ (clockEvent d ∷ [])))) at
       (stored.acknowledged-stored size (slaveNamesFor lone) companion31 beats-keep edge-heard h before byte w d

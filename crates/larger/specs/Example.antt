@@ -19,8 +19,8 @@ use Rattle.bus.specs.Select.{lone, slaveNamesFor}
 use Rattle.family.specs.Chip.{sizeOf, companion31, fresh}
 use Rattle.family.specs.Run.{Ended, runOf}
 use Rattle.family.specs.declared.Size.{Size}
-use Rattle.parts.specs.Demand3.{bytesOf}
-use Rattle.larger.specs.Demand3.{Demanded}
+use Rattle.parts.specs.Demand3.{bytesOf, Ran}
+use Rattle.larger.specs.Demand3.{held, listRun, Demanded}
 
 abbrev pub memoryList : List (Event Beat)
 memoryList =
@@ -43,8 +43,10 @@ mergedList =
 -- The merge meets all that demand 3 asks, so what is demanded holds of it.
 abbrev pub ExampleDemanded : Type 0
 ExampleDemanded =
-    (k : Size) (m : List ℕ) → let bytes : List (Event Beat) → List ℕ = bytesOf (sizeOf k) (slaveNamesFor lone) companion31 in
-    Demanded (sizeOf k) fresh m (bytes memoryList) (bytes companionList) (bytes (eventsOf mergedList)) mergedList
+    (k : Size) (m : List ℕ)
+    → let run : List (Event Beat) → Ran (sizeOf k) (slaveNamesFor lone) companion31 =
+    λ es. listRun (sizeOf k) (held (sizeOf k) fresh m) (bytesOf (sizeOf k) (slaveNamesFor lone) companion31 es) in
+    Demanded (sizeOf k) (run memoryList) (run companionList) (run (eventsOf mergedList)) mergedList
 
 -- And both transactions, and both edges, did something.
 pub record Did (m : List ℕ) (r : Ended) : Type 0 where

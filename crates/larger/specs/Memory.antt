@@ -31,7 +31,8 @@ module _ (size : ℕ) where
       (s : State) (m before byte : List ℕ) (w : ℕ) (d : Bool) → wellFormed size lone s ≡ true → length m ≡ size
       → let begun = runOf size lone s m before in
       let read = runOf size lone s m (before ++ byte) in
-      AtData (begun .state .bus) → Byte companion31 w byte → eventOf size lone (read .state) (read .memory) 3 .line ≡ false
+      AtData (begun .state .bus) → Byte companion31 w byte → eventOf size lone (read .state) (read .memory) 3 .line
+      ≡ false
       → StoredAt (begun .memory) (begun .state .bus .address) w
       (runOf size lone s m (before ++ (byte ++ (clockEvent d ∷ []))) .memory)
 

@@ -3,3 +3,4 @@ pub mod Runs
 pub mod Ends
 pub mod Pieces
 pub mod Calls
+pub mod Held

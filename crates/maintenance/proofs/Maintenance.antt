@@ -16,7 +16,7 @@ use Rattle.wire.proofs.Tests.{by-test, and-split, and-join}
 use Rattle.bounds.specs.Limits.{isIdle}
 use Rattle.bus.specs.declared.Power.{Power}
 use Rattle.bus.specs.declared.Power.the-variants.{On, Backup, Off}
-use Rattle.device.specs.Event.{Happening, onWire, second, lost, gone, returned, happening, eventOn, eventOf}
+use Rattle.device.specs.Event.{Happening, onWire, beat, second, lost, gone, returned, happening, eventOn, eventOf}
 use Rattle.device.specs.declared.State.{State}
 use Rattle.lists.specs.Run.{runOf}
 use Rattle.lists.proofs.Pieces.{run-append}
@@ -173,7 +173,7 @@ mark-tick : (y : Happening) (k : ℕ) (d : Due) (p : Bool) (a v : ℕ) → isTic
 mark-tick (onWire start) k d p a v = by-test (isPart k) (λ q. rw q) (λ q. rw q)
 mark-tick (onWire stop) k d p a v = by-test (isPart k) (λ q. rw q) (λ q. rw q)
 mark-tick (onWire (clock z)) k d p a v = by-test (eqb k 8) (λ q. rw q (ninth-plain d p a v .1)) (λ q. rw q)
-mark-tick second k d p a v = refl
+mark-tick (beat t′) k d p a v = refl
 mark-tick lost k d p a v = refl
 mark-tick gone k d p a v = refl
 mark-tick returned k d p a v = refl
@@ -183,7 +183,7 @@ mark-stop : (y : Happening) (k : ℕ) (d : Due) (p : Bool) (a v : ℕ) → isSto
 mark-stop (onWire start) k d p a v e = by-test (isPart k) (λ q. rw q) (λ q. rw q)
 mark-stop (onWire stop) k d p a v e = absurd (false≢true (sym e))
 mark-stop (onWire (clock z)) k d p a v e = by-test (eqb k 8) (λ q. rw q (ninth-plain d p a v .0)) (λ q. rw q)
-mark-stop second k d p a v e = refl
+mark-stop (beat t′) k d p a v e = refl
 mark-stop lost k d p a v e = refl
 mark-stop gone k d p a v e = refl
 mark-stop returned k d p a v e = refl

@@ -28,7 +28,7 @@ use Rattle.bus.specs.declared.Power.{Power}
 use Rattle.bus.specs.declared.Power.the-variants.{On, Backup, Off}
 use Rattle.companion.specs.declared.Companion as Part
 use Rattle.device.specs.Chip.{memorySize, fm3130}
-use Rattle.device.specs.Event.{Happening, onWire, second, lost, gone, returned, happening, eventOn, eventOf}
+use Rattle.device.specs.Event.{Happening, onWire, beat, lost, gone, returned, happening, eventOn, eventOf}
 use Rattle.device.specs.declared.State.{State}
 use Rattle.lists.specs.Run.{runOf}
 use Rattle.table.specs.Protected.{Change, same, eighth}
@@ -168,17 +168,17 @@ module _ (x : Moment) (c : History) where
       let more = sending-more x c (x .memory) d k b (l ∙ read-line (s .phase) cells (s .companion) d k b q n) u now in
       subst (λ (m : List ℕ). SendingAt m (x ∷ c) (suc k) (cond (eqb k 0) (byteAt cells) b))
       (sym (read-bytes (s .phase) cells (s .companion) d k b q)) more)
-  sending-next On second l u w h = h
+  sending-next On (beat t′) l u w h = h
   sending-next On lost l u w h = tt
   sending-next On gone l u w h = tt
   sending-next On returned l u w h = h
   sending-next Backup (onWire y) l u w h = idle-at (SendingAt (x .memory) (cond (isClock (onWire y)) (x ∷ c) c)) (s .phase) w
-  sending-next Backup second l u w h = h
+  sending-next Backup (beat t′) l u w h = h
   sending-next Backup lost l u w h = h
   sending-next Backup gone l u w h = tt
   sending-next Backup returned l u w h = h
   sending-next Off (onWire y) l u w h = idle-at (SendingAt (x .memory) (cond (isClock (onWire y)) (x ∷ c) c)) (s .phase) w
-  sending-next Off second l u w h = h
+  sending-next Off (beat t′) l u w h = h
   sending-next Off lost l u w h = h
   sending-next Off gone l u w h = h
   sending-next Off returned l u w h = h

@@ -12,7 +12,7 @@ use Rattle.wire.specs.declared.Side.the-variants.{Memory, Companion}
 use Rattle.wire.specs.declared.Phase.{Phase}
 use Rattle.wire.specs.declared.Phase.the-variants.{Idle, Slave, AddressHigh, AddressLow, Pointer, Write, Read}
 use Rattle.wire.proofs.Tests.{by-test}
-use Rattle.device.specs.Event.{Happening, onWire, second, lost, gone, returned}
+use Rattle.device.specs.Event.{Happening, onWire, beat, lost, gone, returned}
 use Rattle.lamps.specs.History.{Moment, History, happened}
 use Rattle.lamps.specs.Log.{clocksOf, dueOf, refusedIn, clocksDone, dueAt, pulls, gaveAt, gaveWhat, isPart, ninth, markFrom, markOf}
 use Rattle.eight.specs.declared.Mark.{Mark}
@@ -46,7 +46,7 @@ gave-at (onWire start) k d u a v e = by-test (isPart k) (λ q. no (rw q at e)) (
 gave-at (onWire stop) k d u a v e = by-test (isPart k) (λ q. no (rw q at e)) (λ q. no (rw q at e))
 gave-at (onWire (clock z)) k d u a v e =
     by-test (eqb k 8) (λ q. (eqb-true k 8 q, ninth-value d u a v (rw q at e))) (λ q. no (rw q at e))
-gave-at second k d u a v e = no e
+gave-at (beat t′) k d u a v e = no e
 gave-at lost k d u a v e = no e
 gave-at gone k d u a v e = no e
 gave-at returned k d u a v e = no e
@@ -64,7 +64,7 @@ gave-is (onWire (clock z)) k d u a v e =
     ninth-is Silence u a v e = no e
     ninth-is Acknowledge true a v e = no e
     ninth-is Acknowledge false a v e = no e
-gave-is second k d u a v e = no e
+gave-is (beat t′) k d u a v e = no e
 gave-is lost k d u a v e = no e
 gave-is gone k d u a v e = no e
 gave-is returned k d u a v e = no e

@@ -17,7 +17,7 @@ use Rattle.wire.specs.declared.Phase.the-variants.{Read}
 use Rattle.bounds.specs.Limits.{isIdle, powerWithin}
 use Rattle.bus.specs.declared.Power.{Power}
 use Rattle.bus.specs.declared.Power.the-variants.{On, Backup, Off}
-use Rattle.device.specs.Event.{Happening, onWire, second, lost, gone, returned, eventOn, eventOf}
+use Rattle.device.specs.Event.{Happening, onWire, beat, lost, gone, returned, eventOn, eventOf}
 use Rattle.device.specs.declared.State.{State}
 use Rattle.lists.specs.Run.{runOf}
 use Rattle.lamps.specs.History.{Moment, History, moment, happened, left, pastOf}
@@ -63,17 +63,18 @@ module _ (x : Moment) (K : ℕ) (D : Due) (U : Bool) (a v : ℕ) (f : ℕ → Li
       let n : eqb K 8 ≡ false = let j = e k b q in ne-eqb K 8 (λ z. omega arith) in
       let g : Sound f k b = subst (At (Sound f)) q h in
       rw n g)
-  sound-next On second w e h = at-map (Sound f) (Added second) (sound-on second Ticked f refl refl) (s .phase) h
+  sound-next On (beat t′) w e h = at-map (Sound f) (Added (beat t′)) (sound-on (beat t′) Ticked f refl refl) (s .phase)
+      h
   sound-next On lost w e h = tt
   sound-next On gone w e h = tt
   sound-next On returned w e h = at-map (Sound f) (Added returned) (sound-on returned Other f refl refl) (s .phase) h
   sound-next Backup (onWire y) w e h = idle-at (Added (onWire y)) (s .phase) w
-  sound-next Backup second w e h = idle-at (Added second) (s .phase) w
+  sound-next Backup (beat t′) w e h = idle-at (Added (beat t′)) (s .phase) w
   sound-next Backup lost w e h = idle-at (Added lost) (s .phase) w
   sound-next Backup gone w e h = tt
   sound-next Backup returned w e h = idle-at (Added returned) (s .phase) w
   sound-next Off (onWire y) w e h = idle-at (Added (onWire y)) (s .phase) w
-  sound-next Off second w e h = idle-at (Added second) (s .phase) w
+  sound-next Off (beat t′) w e h = idle-at (Added (beat t′)) (s .phase) w
   sound-next Off lost w e h = idle-at (Added lost) (s .phase) w
   sound-next Off gone w e h = idle-at (Added gone) (s .phase) w
   sound-next Off returned w e h = idle-at (Added returned) (s .phase) w

@@ -17,7 +17,7 @@ use mathlib.Core.List.{List, [], _∷_, _++_}
 use lib.ListN.{replicate}
 use Rattle.wire.specs.Machine.{start, stop, clock}
 use Rattle.wire.specs.declared.Phase.the-variants.{Idle}
-use Rattle.device.specs.Event.{Happening, onWire, second, lost, gone, returned, happening}
+use Rattle.device.specs.Event.{Happening, onWire, beat, lost, gone, returned, happening}
 use Rattle.device.specs.declared.State.{State}
 use Rattle.lists.specs.Run.{runOf}
 use Rattle.lamps.specs.Log.{clocksOf}
@@ -52,7 +52,7 @@ Unacknowledged =
 
 abbrev pub isTickEvent : Happening → Bool
 isTickEvent (onWire x) = false
-isTickEvent second = true
+isTickEvent (beat t′) = true
 isTickEvent lost = false
 isTickEvent gone = false
 isTickEvent returned = false
@@ -61,7 +61,7 @@ abbrev pub isStopEvent : Happening → Bool
 isStopEvent (onWire start) = false
 isStopEvent (onWire stop) = true
 isStopEvent (onWire (clock d)) = false
-isStopEvent second = false
+isStopEvent (beat t′) = false
 isStopEvent lost = false
 isStopEvent gone = false
 isStopEvent returned = false

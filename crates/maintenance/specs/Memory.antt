@@ -17,7 +17,7 @@ use Rattle.wire.specs.Machine.{start, stop, clock}
 use Rattle.wire.specs.declared.Side.the-variants.{Memory, Companion}
 use Rattle.wire.specs.declared.Phase.{Phase}
 use Rattle.wire.specs.declared.Phase.the-variants.{Idle, Slave, AddressHigh, AddressLow, Pointer, Write, Read}
-use Rattle.device.specs.Event.{Happening, onWire, second, lost, gone, returned}
+use Rattle.device.specs.Event.{Happening, onWire, beat, lost, gone, returned}
 use Rattle.device.specs.declared.State.{State}
 use Rattle.lists.specs.Run.{runOf}
 use Rattle.lamps.specs.History.{Moment, History, happened, pastOf}
@@ -31,7 +31,7 @@ abbrev pub isHighClock : Happening → Bool
 isHighClock (onWire start) = false
 isHighClock (onWire stop) = false
 isHighClock (onWire (clock d)) = d
-isHighClock second = false
+isHighClock (beat t′) = false
 isHighClock lost = false
 isHighClock gone = false
 isHighClock returned = false

@@ -21,7 +21,8 @@ use Rattle.calendar.specs.Mend.{mendedOf}
 use Rattle.calendar.specs.declared.Calendar.{Calendar}
 use Rattle.companion.specs.Change.{withTime, withRegisters}
 use Rattle.numbers.specs.Numbers.{accepted, shortAnswers}
-use Rattle.device.specs.Power.{fresh, poweredWith}
+use Rattle.device.specs.Bus.{withCompanion}
+use Rattle.device.specs.Power.{fresh}
 use Rattle.device.specs.declared.State.{State}
 use Rattle.image.specs.Image.{calendarAt, imageOf}
 use Rattle.image.specs.Reading.{WrittenBy}
@@ -85,7 +86,7 @@ NoMoreWritten = (i ch : List ℕ) → drop room (mendOf i ch .changes) ≡ drop 
 -- A state whose calendar registers are all out of range on their own.
 abbrev pub impossible : State
 impossible =
-    poweredWith fresh
+    withCompanion fresh
     (withRegisters (fresh .companion)
     (withTime (fresh .companion .registers) 0
     (record { seconds = 0x7F; minutes = 0x7F; hours = 0x3F; day = 0; date = 0; month = 0; year = 0xFF })))

@@ -1,7 +1,8 @@
 -- SPDX-License-Identifier: Apache-2.0
 -- Demand 3 on event bytes, from that of the machine, over any size, names and companion. A powered event byte is the
--- machine's event (`event-is`): a tick by what is asked of the part, any other by computation; so a list of event bytes leaves what the machine's run leaves
--- (`run-is`), and is answered by its answers, written as bytes (`answers-are`) or as bits (`lines-are`).
+-- machine's event (`event-is`): a tick by what is asked of the part, any other by computation; so a list of event bytes
+-- leaves what the machine's run leaves (`run-is`), and is answered by its answers, written as bytes (`answers-are`) or
+-- as bits (`lines-are`).
 -- Assumes nothing.
 use Prim.Native.Nat.{ℕ, _+_, _*_, _%_}
 use mathlib.Core.Path.{_≡_, refl, sym, ap, subst, _∙_}
@@ -61,6 +62,9 @@ module _ (size : ℕ) (names : ℕ → Named) (D : Desks) (T : TicksHeard D) whe
   abbrev answers : H → List ℕ → List ℕ
   answers = answersTo size names D
 
+  abbrev ran : H → List ℕ → bytes.Ran size names D
+  ran = bytes.oneByOne size names D
+
   abbrev byteOf : BusEvent P → ℕ
   byteOf = bytes.byteOf size names D
 
@@ -104,7 +108,8 @@ module _ (size : ℕ) (names : ℕ → Named) (D : Desks) (T : TicksHeard D) whe
     after-is = ap (heldBy size names D) (event-is u e)
 
     answer-is : answerTo size names D (heldOf u) (byteOf e) ≡ byteFor (answerOf P (step P u e))
-    answer-is = ap (λ (d : Done size names D). 2 * D .pin (d .bus .power) (d .companion) + cond (d .line) 1 0) (event-is u e)
+    answer-is = ap (λ (d : Done size names D). 2 * D .pin (d .bus .power) (d .companion) + cond (d .line) 1 0)
+        (event-is u e)
 
   -- a list of events
   run-is : (u : Bus) (es : Events) → after (heldOf u) (bytesOf es) ≡ heldOf (run P u es)
@@ -163,7 +168,8 @@ module _ (size : ℕ) (names : ℕ → Named) (D : Desks) (T : TicksHeard D) whe
         ∙ (picked-map byteFor isCompanion l (answersOf P (λ a. a) u (eventsOf l))
         ∙ (ap (map byteFor) (r .companion-answers) ∙ sym (answers-are u ys)))
 
-    demanded : bytes.Demanded size names D (heldOf u) (bytesOf xs) (bytesOf ys) all l
+    demanded : bytes.Demanded size names D (ran (heldOf u) (bytesOf xs)) (ran (heldOf u) (bytesOf ys))
+        (ran (heldOf u) all) l
     demanded =
         record {
           memory = store-alike (λ m. m .bytes);
@@ -185,12 +191,14 @@ module _ (size : ℕ) (names : ℕ → Named) (D : Desks) (T : TicksHeard D) whe
         memory = h .memory;
       }
 
-  pub demand-three : OnlyWrites P → DemandThree size names D
+  pub demand-three : OnlyWrites P → DemandThree size names D ran
   unfolding machineOf
   demand-three only h xs ys l on idle wx wy merge steady =
       let u = machineOf h in
       let k = powered h on in
-      subst (λ (z : H). bytes.Demanded size names D z (bytesOf xs) (bytesOf ys) (bytesOf (eventsOf l)) l) (sym k)
+      subst (λ (z : H). bytes.Demanded size names D (ran z (bytesOf xs)) (ran z (bytesOf ys))
+      (ran z (bytesOf (eventsOf l))) l)
+      (sym k)
       (demanded u xs ys l
       (isolation P only u xs ys l idle wx wy merge
       (steady-is u ys (subst (λ (z : H). SteadyIn z ys) k steady))))

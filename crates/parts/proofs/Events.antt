@@ -1,7 +1,7 @@
 -- SPDX-License-Identifier: Apache-2.0
--- The events that fall while a transfer goes on, as the machine has them: a Clock, a tick or an edge, and a return of
--- power that is there already. A list in two pieces is the second piece after the first. The byte of a second says so in
--- every part, and each edge's in a part with counter inputs: what is asked of a part's event bytes.
+-- The events that fall while a transfer goes on, as the machine has them: a Clock, a tick of the part, and a return of
+-- power that is there already. A list in two pieces is the second piece after the first. The byte of a second says so
+-- in every part, and each edge's in a part with counter inputs: what is asked of a part's event bytes.
 -- Assumes nothing.
 use Prim.Native.Nat.{ℕ}
 use mathlib.Core.Path.{_≡_, refl}

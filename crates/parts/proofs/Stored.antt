@@ -58,7 +58,8 @@ module _ (size : ℕ) (names : ℕ → Named) (D : Desks) (K : BeatsKeep D) (T :
   beaten : H → D .Tick → Done size names D
   beaten h t = done size names D (h .bus) (D .ticked (D .beatOf t) (h .companion)) (h .memory) true
 
-  stands-beaten : {h : H} {p : Phase} {a g : ℕ} (t : D .Tick) → Stands h p a g → Stands (heldBy size names D (beaten h t))
+  stands-beaten : {h : H} {p : Phase} {a g : ℕ} (t : D .Tick) → Stands h p a g → Stands
+      (heldBy size names D (beaten h t))
       p a g
   unfolding beaten
   stands-beaten {h} t s =

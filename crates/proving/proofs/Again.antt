@@ -16,7 +16,7 @@ use Rattle.wire.specs.Machine.{start, stop, clock}
 use Rattle.wire.proofs.Tests.{by-test, and-split, and-join}
 use Rattle.device.specs.Chip.{memorySize}
 use Rattle.device.specs.Limits.{wellFormed}
-use Rattle.device.specs.Event.{Happening, onWire, second, lost, gone, returned, happening, eventOf}
+use Rattle.device.specs.Event.{Happening, onWire, beat, lost, gone, returned, happening, eventOf}
 use Rattle.device.specs.declared.State.{State}
 use Rattle.device.specs.declared.Answered.{Answered}
 use Rattle.device.proofs.Entry.{ready}
@@ -78,7 +78,7 @@ followed-place : (y : Happening) (f : Follower) (s : State) (p : Phase) (line : 
 followed-place (onWire start) f s p line h g = omega arith
 followed-place (onWire stop) f s p line h g = omega arith
 followed-place (onWire (clock d)) f s p line h g = gathered-place (s .phase) f (s .address) _ line h g
-followed-place second f s p line h g = g
+followed-place (beat t′) f s p line h g = g
 followed-place lost f s p line h g = omega arith
 followed-place gone f s p line h g = omega arith
 followed-place returned f s p line h g = g

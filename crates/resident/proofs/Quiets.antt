@@ -19,14 +19,13 @@ use Rattle.calendar.specs.declared.Rolled.{Rolled}
 use Rattle.calendar.specs.declared.Rolled.the-variants.{Nothing}
 use Rattle.companion.specs.Part.{rolledOf}
 use Rattle.device.specs.Answer.{pinShown, answerByte}
-use Rattle.device.specs.Bus.{withPhase, clockedWith}
+use Rattle.device.specs.Bus.{clockedWith}
 use Rattle.device.specs.Chip.{Done}
 use Rattle.device.specs.Limits.{wellFormed}
-use Rattle.device.specs.Power.{backedUp, dark, restored, powered}
-use Rattle.device.specs.Event.{Happening, onWire, second, lost, gone, returned, happening, still, unheard, ticked, eventOn, eventOf, rolledBy, rolledIn}
+use Rattle.device.specs.Event.{Happening, onWire, beat, second, lost, gone, returned, happening, eventOn, eventOf, rolledBy, rolledIn}
 use Rattle.device.specs.declared.State.{State}
 use Rattle.companion.specs.Part.{pinOf}
-use Rattle.device.proofs.Cases.{happening-clock, idle-clock}
+use Rattle.device.proofs.Cases.{still, withPhase, ticked, backedUp, dark, restored, powered, happening-clock, idle-clock}
 use Rattle.device.proofs.Entry.{limits-of}
 use Rattle.image.specs.Image.{imageOf}
 use Rattle.clocking.specs.Clocking.{Left}
@@ -209,7 +208,7 @@ abbrev pub IsQuiet : Happening → Type 0
 IsQuiet (onWire start) = Unit {0}
 IsQuiet (onWire stop) = Unit {0}
 IsQuiet (onWire (clock d)) = ⊥
-IsQuiet second = Unit {0}
+IsQuiet (beat t′) = Unit {0}
 IsQuiet lost = Unit {0}
 IsQuiet gone = Unit {0}
 IsQuiet returned = Unit {0}
@@ -220,21 +219,21 @@ unfolding eventOn lined
 still-on On (onWire start) s m h = refl
 still-on On (onWire stop) s m h = refl
 still-on On (onWire (clock d)) s m h = absurd h
-still-on On second s m h = refl
+still-on On (beat t′) s m h = refl
 still-on On lost s m h = refl
 still-on On gone s m h = refl
 still-on On returned s m h = refl
 still-on Backup (onWire start) s m h = refl
 still-on Backup (onWire stop) s m h = refl
 still-on Backup (onWire (clock d)) s m h = absurd h
-still-on Backup second s m h = refl
+still-on Backup (beat t′) s m h = refl
 still-on Backup lost s m h = refl
 still-on Backup gone s m h = refl
 still-on Backup returned s m h = refl
 still-on Off (onWire start) s m h = refl
 still-on Off (onWire stop) s m h = refl
 still-on Off (onWire (clock d)) s m h = absurd h
-still-on Off second s m h = refl
+still-on Off (beat t′) s m h = refl
 still-on Off lost s m h = refl
 still-on Off gone s m h = refl
 still-on Off returned s m h = refl

@@ -26,12 +26,12 @@ use Rattle.bus.specs.declared.Power.the-variants.{On, Backup, Off}
 use Rattle.companion.specs.Tick.{countedOf}
 use Rattle.companion.specs.declared.Companion as desk
 use Rattle.device.specs.Answer.{pinShown}
-use Rattle.device.specs.Bus.{withPhase, withCompanion}
+use Rattle.device.specs.Bus.{withCompanion}
 use Rattle.device.specs.Chip.{fm3130, Done, doneOf}
-use Rattle.device.specs.Event.{onWire, happening, still, eventOn, eventOf}
+use Rattle.device.specs.Event.{onWire, happening, eventOn, eventOf}
 use Rattle.device.specs.Limits.{wellFormed}
 use Rattle.device.specs.declared.State.{State}
-use Rattle.device.proofs.Cases.{happening-clock, tick-supplied}
+use Rattle.device.proofs.Cases.{still, withPhase, happening-clock, tick-supplied}
 use Rattle.device.proofs.Entry.{limits-of}
 use Rattle.frame.specs.Layout.{transfer, transferOf, sideOf}
 use Rattle.image.specs.Image.{imageOf}

@@ -13,10 +13,10 @@ use Rattle.wire.specs.Bits.{pushed, sentBit}
 use Rattle.wire.proofs.Tests.{by-test}
 use Rattle.companion.specs.Tick.{countedOf}
 use Rattle.device.specs.Answer.{pinShown}
-use Rattle.device.specs.Bus.{withPhase, withCompanion}
+use Rattle.device.specs.Bus.{withCompanion}
 use Rattle.device.specs.Chip.{memorySize}
-use Rattle.device.specs.Event.{still}
 use Rattle.device.specs.declared.State.{State}
+use Rattle.device.proofs.Cases.{still, withPhase}
 use Rattle.frame.specs.Layout.{transferOf, sideOf}
 use Rattle.image.specs.Image.{imageOf, candidate}
 use Rattle.image.specs.Accepting.{isImage}

@@ -13,10 +13,10 @@ use Rattle.companion.specs.Part.{tickOf}
 use Rattle.device.specs.Chip.{memorySize, Done}
 use Rattle.device.specs.Bus.{withCompanion}
 use Rattle.device.specs.Power.{isSupplied}
-use Rattle.device.specs.Event.{happening, still, ticked, eventOf}
+use Rattle.device.specs.Event.{happening, eventOf}
 use Rattle.device.specs.Limits.{wellFormed}
 use Rattle.device.specs.declared.State.{State}
-use Rattle.device.proofs.Cases.{tick-supplied, tick-unsupplied}
+use Rattle.device.proofs.Cases.{still, ticked, tick-supplied, tick-unsupplied}
 use Rattle.lists.specs.Run.{runOf, allKnown}
 use Rattle.lists.proofs.Runs.{run-ok}
 use Rattle.sleep.specs.Ticks.{ticksOf}

@@ -24,7 +24,7 @@ use Rattle.companion.specs.Part.{pinOf}
 use Rattle.companion.specs.declared.Companion.{Companion}
 use Rattle.registers.proofs.Functions.{function-le}
 use Rattle.device.specs.Chip.{fm3130}
-use Rattle.device.specs.Event.{Happening, onWire, second, lost, gone, returned, happening, eventOn}
+use Rattle.device.specs.Event.{Happening, onWire, beat, lost, gone, returned, happening, eventOn}
 use Rattle.device.specs.declared.State.{State}
 use Rattle.table.specs.Answers.{EventBytes, functionBy, AnswerBits, EveryAnswer, LineBits}
 
@@ -93,7 +93,7 @@ abbrev NoClock : Happening → Type 0
 NoClock (onWire start) = Unit {0}
 NoClock (onWire stop) = Unit {0}
 NoClock (onWire (clock d)) = ⊥
-NoClock second = Unit {0}
+NoClock (beat t′) = Unit {0}
 NoClock lost = Unit {0}
 NoClock gone = Unit {0}
 NoClock returned = Unit {0}
@@ -105,7 +105,8 @@ no-clock e low high =
     (λ h. by-cond NoClock (eqb e 2) (λ h. low (eqb-true e 2 h))
     (λ h. by-cond NoClock (eqb e 3) (λ h. high (eqb-true e 3 h))
     (λ h. by-cond NoClock (eqb e 4) (λ h. tt) (λ h. by-cond NoClock (eqb e 5) (λ h. tt)
-    (λ h. by-cond NoClock (eqb e 6) (λ h. tt) (λ h. tt)))))))
+    (λ h. by-cond NoClock (eqb e 6) (λ h. tt) (λ h. by-cond NoClock (eqb e 7) (λ h. tt)
+    (λ h. tt))))))))
 
 each-power : (Q : Power → Type 0) → Q On → Q Backup → Q Off → (p : Power) → Q p
 each-power Q on backup off On = on
@@ -117,7 +118,7 @@ unfolding eventOn lined
 still-high p (onWire start) s m h = each-power (λ p. eventOn p (onWire start) s m .line ≡ true) refl refl refl p
 still-high p (onWire stop) s m h = each-power (λ p. eventOn p (onWire stop) s m .line ≡ true) refl refl refl p
 still-high p (onWire (clock d)) s m h = absurd h
-still-high p second s m h = each-power (λ p. eventOn p second s m .line ≡ true) refl refl refl p
+still-high p (beat t′) s m h = each-power (λ p. eventOn p (beat t′) s m .line ≡ true) refl refl refl p
 still-high p lost s m h = each-power (λ p. eventOn p lost s m .line ≡ true) refl refl refl p
 still-high p gone s m h = each-power (λ p. eventOn p gone s m .line ≡ true) refl refl refl p
 still-high p returned s m h = each-power (λ p. eventOn p returned s m .line ≡ true) refl refl refl p

@@ -12,8 +12,9 @@ use Rattle.bus.specs.declared.Power.the-variants.{On}
 use Rattle.companion.specs.Part.{tickOf}
 use Rattle.device.specs.Chip.{fm3130, Done, doneOf}
 use Rattle.device.specs.Bus.{withCompanion}
-use Rattle.device.specs.Event.{happening, eventOn, eventOf, still}
+use Rattle.device.specs.Event.{happening, eventOn, eventOf}
 use Rattle.device.specs.declared.State.{State}
+use Rattle.device.proofs.Cases.{still}
 use Rattle.table.specs.Stored.{clockEvent}
 
 module _ (s : State) (m : List ℕ) (on : s .power ≡ On) where

@@ -26,15 +26,18 @@ use Rattle.companion.specs.Part.{guardOf, loadOf, loadedOf, returnedOf}
 use Rattle.companion.specs.declared.Companion.{Companion as Desk}
 use Rattle.companion.proofs.Shown.{aim-guard, loaded-guard, tick-guard}
 use Rattle.device.specs.Chip.{memorySize, fm3130}
-use Rattle.device.specs.Desk.{aims, stores}
-use Rattle.device.specs.Event.{Happening, onWire, second, lost, gone, returned, happening, eventOf, eventOn}
+use Rattle.wire.specs.Slave.{slaveNames}
+use Rattle.device.specs.Desk.{aims, stores, companion30}
+use Rattle.device.specs.Event.{Happening, onWire, beat, lost, gone, returned, happening, eventOf, eventOn}
 use Rattle.device.specs.declared.State.{State}
 use Rattle.lists.specs.Run.{runOf}
 use Rattle.table.specs.Stored.{after}
 use Rattle.table.specs.Protected.{Protected}
 use Rattle.table.specs.Throughout.{BeforeEach, ProtectedKept, Protecting, written, dark}
 use Rattle.table.specs.Throughout.{OnlyTheseProtect, ProtectionStays}
-use Rattle.table.proofs.Protected.{protected-unchanged}
+use Rattle.lists.specs.Held.{held}
+use Rattle.lists.proofs.Held.{run-held}
+use Rattle.parts.proofs.Protected as laws
 
 -- what holds before each event of a list holds so of its first event, and of the list after that
 module _ (X : State → ℕ → Type 0) (s : State) (m : List ℕ) (e : ℕ) (es : List ℕ) (h : BeforeEach X s m (e ∷ es)) where
@@ -47,12 +50,10 @@ module _ (X : State → ℕ → Type 0) (s : State) (m : List ℕ) (e : ℕ) (es
   before-rest done rest f q = h (e ∷ done) rest f (ap (λ (z : List ℕ). e ∷ z) q)
 
 pub protected-kept : ProtectedKept
-unfolding runOf
-protected-kept s m [] a h = refl
-protected-kept s m (e ∷ es) a h =
-    let X : State → ℕ → Type 0 = λ t f. Protected t a ≡ true in
-    protected-kept (eventOf s m e .state) (eventOf s m e .memory) es a (before-rest X s m e es h)
-    ∙ protected-unchanged s m e a (before-first X s m e es h)
+protected-kept s m es a h =
+    rw (run-held s m es) at
+    (laws.protected-kept memorySize slaveNames companion30 (held s m) es a
+    (λ done rest e q. rw (run-held s m done) (h done rest e q)))
 
 -- a clock that serves the companion
 module _ (c : Desk) (k b : ℕ) (d : Bool) where
@@ -95,17 +96,17 @@ unfolding eventOn lined returnedOf
 event-guard On (onWire start) s m n = refl
 event-guard On (onWire stop) s m n = refl
 event-guard On (onWire (clock d)) s m n = clock-guard s m d (s .phase) refl n
-event-guard On second s m n = tick-guard (s .companion)
+event-guard On (beat t′) s m n = tick-guard (s .companion)
 event-guard On lost s m n = refl
 event-guard On gone s m n = absurd (n dark)
 event-guard On returned s m n = refl
 event-guard Backup (onWire x) s m n = refl
-event-guard Backup second s m n = tick-guard (s .companion)
+event-guard Backup (beat t′) s m n = tick-guard (s .companion)
 event-guard Backup lost s m n = refl
 event-guard Backup gone s m n = absurd (n dark)
 event-guard Backup returned s m n = refl
 event-guard Off (onWire x) s m n = refl
-event-guard Off second s m n = refl
+event-guard Off (beat t′) s m n = refl
 event-guard Off lost s m n = refl
 event-guard Off gone s m n = refl
 event-guard Off returned s m n = refl

@@ -5,30 +5,27 @@
 -- Assumes nothing.
 use Prim.Native.Nat.{ℕ}
 use mathlib.Core.Path.{_≡_}
-use mathlib.Core.Bool.{Bool, true, false}
+use mathlib.Core.Bool.{Bool, true}
 use mathlib.Core.List.{List}
-use lib.ListN.{getD, set}
-use Rattle.wire.specs.Bits.{pushed}
+use lib.ListN.{getD}
+use Rattle.wire.specs.Slave.{slaveNames}
 use Rattle.wire.specs.Memory.{isProtected}
-use Rattle.wire.specs.Machine.{clock}
-use Rattle.wire.specs.declared.Side.the-variants.{Memory}
-use Rattle.wire.specs.declared.Phase.the-variants.{Write}
-use Rattle.bus.specs.declared.Power.the-variants.{On}
 use Rattle.companion.specs.Part.{guardOf}
+use Rattle.device.specs.Desk.{companion30}
 use Rattle.device.specs.Chip.{memorySize}
-use Rattle.device.specs.Event.{Happening, onWire, happening, eventOf}
+use Rattle.device.specs.Event.{Happening, happening, eventOf}
 use Rattle.device.specs.declared.State.{State}
+use Rattle.lists.specs.Held.{held}
+use Rattle.parts.specs.Protected as parts
+pub use Rattle.parts.specs.Protected.{same, eighth}
 
 -- The address is protected, by WP1 WP0 of 0Eh as it stands.
 abbrev pub Protected : State → ℕ → Bool
 Protected s a = isProtected memorySize (guardOf (s .companion)) a
 
--- An event leaves the memory as it is; or it is the eighth clock of a data byte of a memory write, main power is present,
--- the address is not protected, and the byte is stored there.
-pub data Change (s : State) (m : List ℕ) (x : Happening) (m′ : List ℕ) : Type 0 where
-  same : m′ ≡ m → Change s m x m′
-  eighth : (b : ℕ) (d : Bool) → s .power ≡ On → s .phase ≡ Write Memory 7 b → x ≡ onWire (clock d)
-      → Protected s (s .address) ≡ false → m′ ≡ set m (s .address) (pushed b d) → Change s m x m′
+-- The two ways an event leaves the memory, as of every part: `same`, or the eighth clock of a data byte, `eighth`.
+abbrev pub Change : State → List ℕ → Happening → List ℕ → Type 0
+Change s m x m′ = parts.Change memorySize slaveNames companion30 (held s m) x m′
 
 -- No event but a data byte's eighth clock of a memory write changes memory at all.
 abbrev pub OnlyEighthClocks : Type 0

@@ -18,7 +18,7 @@ use Rattle.bus.specs.declared.Power.the-variants.{On}
 use Rattle.companion.specs.Registers.{registerAt}
 use Rattle.registers.specs.Map.{nextAddress}
 use Rattle.companion.specs.Part.{controlRead, steppedOf, loadOf, loadedOf}
-use Rattle.device.specs.Chip.{fm3130, machineOf}
+use Rattle.device.specs.Chip.{fm3130}
 use Rattle.device.specs.declared.State.{State}
 use Rattle.transfers.specs.Sends.{SentFromMemory, MemorySends, registerNow, SentFromRegisters, RegisterSends}
 use Rattle.transfers.proofs.Runs.{live, Leads, clocks-lead}

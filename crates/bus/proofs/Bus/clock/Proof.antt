@@ -34,12 +34,14 @@ returns c = rw (c .before .before .before .before .enum-told .given .1) (rw (c .
 
 returns-2 : tie.Need-returns-2
 unfolding eventOn
-returns-2 c = let a = c .before .before .before .args in at-power (a .size) (slaveNamesFor (a .select)) (a .guard) (a .reply) (a .self)
+returns-2 c = let a = c .before .before .before .args in at-power (a .size) (slaveNamesFor (a .select)) (a .guard)
+    (a .reply) (a .self)
     (now (a .memory)) (onWire (clock (a .high))) (c .enum-told2 .given .1) refl
 
 returns-3 : tie.Need-returns-3
 unfolding eventOn
-returns-3 c = let a = c .before .before .before .args in at-power (a .size) (slaveNamesFor (a .select)) (a .guard) (a .reply) (a .self)
+returns-3 c = let a = c .before .before .before .args in at-power (a .size) (slaveNamesFor (a .select)) (a .guard)
+    (a .reply) (a .self)
     (now (a .memory)) (onWire (clock (a .high))) (c .enum-told3 .given .1) refl
 
 pub clock-spec : {M : Type 1} → statement M

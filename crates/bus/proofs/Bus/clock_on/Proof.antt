@@ -63,12 +63,14 @@ read-clock-requires : tie.Need-read-clock-requires
 read-clock-requires c κs = search needs
 
 returns : tie.Need-returns
-returns c = let a = c .before .before .before .args in idle-clock (a .size) (slaveNamesFor (a .select)) (a .guard) (a .reply) (a .self)
+returns c = let a = c .before .before .before .args in idle-clock (a .size) (slaveNamesFor (a .select)) (a .guard)
+    (a .reply) (a .self)
     (now (a .memory)) (a .high) (c .enum-told .given .1)
 
 returns-2 : tie.Need-returns-2
 unfolding clocked
-returns-2 c = let a = c .before .before .before .before .before .before .args in at-phase (a .size) (slaveNamesFor (a .select))
+returns-2 c = let a = c .before .before .before .before .before .before .args in at-phase (a .size)
+    (slaveNamesFor (a .select))
     (a .guard) (a .reply) (a .self) (now (a .memory)) (a .high) (c .before .before .before .phase .given .1) (rw (
       c
           .turned .ensures,
@@ -77,13 +79,15 @@ returns-2 c = let a = c .before .before .before .before .before .before .args in
 
 returns-3 : tie.Need-returns-3
 unfolding clocked
-returns-3 c = let a = c .before .before .before .before .before .before .args in at-phase (a .size) (slaveNamesFor (a .select))
+returns-3 c = let a = c .before .before .before .before .before .before .args in at-phase (a .size)
+    (slaveNamesFor (a .select))
     (a .guard) (a .reply) (a .self) (now (a .memory)) (a .high) (c .before .before .before .phase2 .given .1) (rw
     (c .turned2 .ensures, c .before .high-clock .ensures))
 
 returns-4 : tie.Need-returns-4
 unfolding clocked
-returns-4 c = let a = c .before .before .before .before .before .before .args in at-phase (a .size) (slaveNamesFor (a .select))
+returns-4 c = let a = c .before .before .before .before .before .before .args in at-phase (a .size)
+    (slaveNamesFor (a .select))
     (a .guard) (a .reply) (a .self) (now (a .memory)) (a .high) (c .before .before .before .phase3 .given .1) (rw (
       c
           .moved .ensures,
@@ -92,7 +96,8 @@ returns-4 c = let a = c .before .before .before .before .before .before .args in
 
 returns-5 : tie.Need-returns-5
 unfolding clocked
-returns-5 c = let a = c .before .before .before .before .before .before .args in at-phase (a .size) (slaveNamesFor (a .select))
+returns-5 c = let a = c .before .before .before .before .before .before .args in at-phase (a .size)
+    (slaveNamesFor (a .select))
     (a .guard) (a .reply) (a .self) (now (a .memory)) (a .high) (c .before .before .before .phase4 .given .1) (rw
     (c .turned3 .ensures, c .before .pointer-turn .ensures))
 
@@ -101,14 +106,16 @@ same-length c = search needs
 
 returns-6 : tie.Need-returns-6
 returns-6 c = let a = c .before .before .before .before .before .before .before .before .args in at-phase (a .size)
-    (slaveNamesFor (a .select)) (a .guard) (a .reply) (a .self) (now (a .memory)) (a .high) (c .before .before .before .before
+    (slaveNamesFor (a .select)) (a .guard) (a .reply) (a .self) (now (a .memory)) (a .high)
+    (c .before .before .before .before
     .before .phase5 .given .1) (c .before .before .write-clock .ensures)
 
 same-length-2 : tie.Need-same-length-2
 same-length-2 c = search needs
 
 returns-7 : tie.Need-returns-7
-returns-7 c = let a = c .before .before .before .before .before .before .args in at-phase (a .size) (slaveNamesFor (a .select))
+returns-7 c = let a = c .before .before .before .before .before .before .args in at-phase (a .size)
+    (slaveNamesFor (a .select))
     (a .guard) (a .reply) (a .self) (now (a .memory)) (a .high) (c .before .before .before .phase6 .given .1)
     (c .read-clock .ensures)
 

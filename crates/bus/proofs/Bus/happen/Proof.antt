@@ -21,7 +21,8 @@ other-requires : tie.Need-other-requires
 other-requires c κs = search needs
 
 returns-2 : tie.Need-returns-2
-returns-2 c = let a = c .before .before .before .args in c .other .ensures (a .size) (slaveNamesFor (a .select)) (a .guard) (a .reply)
+returns-2 c = let a = c .before .before .before .args in c .other .ensures (a .size) (slaveNamesFor (a .select))
+    (a .guard) (a .reply)
     (now (a .memory))
 
 pub happen-spec : {M : Type 1} → statement M
