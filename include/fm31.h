@@ -413,10 +413,10 @@ uint64_t fm31_set_check(const uint8_t *plan, uint64_t plan_length, const uint8_t
  *
  * Proved: RunSettled, crates/rig31set/specs/Entry.antt; that 9 is given exactly then: CountExactly,
  * crates/rig31set/specs/Count.antt; that each device does as alone: AsAlone,
- * crates/ensemble/specs/Alone.antt; that 11 is never given to a set that was made: MadeRunsOn,
- * crates/ensemble/specs/Stand.antt; that no two devices pull the line low at once: OnePulls,
- * crates/ensemble/specs/Pulls.antt. Allocates nothing, keeps nothing, thread-safe on distinct
- * buffers.
+ * crates/ensemble/specs/Alone.antt; that after a set was made only 3 and 4 are given, call after
+ * call: MadeRuns and RunsAgain, crates/ensemble/specs/Again.antt; that no two devices pull the line
+ * low at once: OnePulls, crates/ensemble/specs/Pulls.antt. Allocates nothing, keeps nothing,
+ * thread-safe on distinct buffers.
  */
 uint64_t fm31_set_run(const uint8_t *plan, uint64_t plan_length, uint8_t *images,
                       uint64_t images_length, uint8_t *one, uint64_t one_length, uint8_t *two,

@@ -2,9 +2,9 @@
 -- Of two devices of a set one is idle, or both are in the same slave byte (`Clear`), and a device without main power is
 -- idle; every event byte keeps both.
 -- Assumes nothing.
-use Prim.Native.Nat.{ℕ, _≤_, _+_, _%_}
+use Prim.Native.Nat.{ℕ, _≤_}
 use mathlib.Core.Path.{_≡_, refl, sym, ap, subst, _∙_}
-use mathlib.Core.Bool.{Bool, true, false, cond, _&&_, _||_}
+use mathlib.Core.Bool.{Bool, true, false, cond}
 use mathlib.Core.List.{List, [], _∷_}
 use native.Mathlib.Omega.{arith}
 use lib.Dec.{ltb, eqb}

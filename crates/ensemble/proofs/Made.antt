@@ -10,7 +10,7 @@ use Rattle.wire.specs.declared.Phase.{Phase}
 use Rattle.wire.specs.declared.Phase.the-variants.{Idle, Slave, AddressHigh, AddressLow, Pointer, Write, Read}
 use Rattle.bounds.specs.Limits.{isIdle}
 use Rattle.wired.proofs.Wire.{not-true}
-use Rattle.set31.specs.Set.{Held, Together, numberOf, at, selectIn}
+use Rattle.set31.specs.Set.{Held, Together, numberOf, selectIn}
 use Rattle.set31.specs.Make.{isLent, isWithin, isBetween, placesAre, differ, selectsDiffer, countFits, makeNumber}
 use Rattle.set31.proofs.Facts.{here-is, place-has}
 use Rattle.ensemble.specs.Transaction.{Unlike, Made}

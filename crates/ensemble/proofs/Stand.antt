@@ -4,7 +4,7 @@
 -- Assumes nothing.
 use Prim.Native.Nat.{ℕ}
 use mathlib.Core.Path.{_≡_, refl, sym, ap, subst}
-use mathlib.Core.Bool.{true, false, _&&_, _||_}
+use mathlib.Core.Bool.{true, false, _&&_}
 use mathlib.Core.List.{List, [], _∷_}
 use lib.Dec.{eqb, ltb}
 use borrow.Author.Tests.{ltb-true, lt-ltb, eqb-true, eq-eqb}
@@ -20,7 +20,7 @@ use Rattle.family.specs.Limits.{wellFormed}
 use Rattle.wired.proofs.Wire.{not-true}
 use Rattle.wired.proofs.Pulls.{Clear, this-idle, that-idle, both-called}
 use Rattle.set31.specs.Set.{Held, Together, Place, numberOf, at, sizeIn, selectIn, afterEvent, afterEvents}
-use Rattle.set31.specs.Make.{isWithin, placesAre}
+use Rattle.set31.specs.Make.{isWithin}
 use Rattle.set31.specs.Stand.{isInSlaveByte, areClear, standClear}
 use Rattle.set31.proofs.Facts.{here-is, place-has}
 use Rattle.ensemble.specs.Transaction.{samePlace, Here, Between, Unlike}
@@ -100,11 +100,11 @@ calm-of t u s v w a b d =
     }
 
 -- no event changes how many there are
-count-kept : (t : Together) (es : List ℕ) → afterEvents t es .set .count ≡ t .set .count
+pub count-kept : (t : Together) (es : List ℕ) → afterEvents t es .set .count ≡ t .set .count
 count-kept t [] = refl
 count-kept t (e ∷ es) = count-kept (afterEvent t e) es
 
-here-before : (t : Together) (es : List ℕ) (v : Place) → Here (afterEvents t es) v → Here t v
+pub here-before : (t : Together) (es : List ℕ) (v : Place) → Here (afterEvents t es) v → Here t v
 here-before t es v a = subst (λ (n : ℕ). ltb (numberOf v) n ≡ true) (count-kept t es) a
 
 pub stands-on : StandsOn
