@@ -6,14 +6,12 @@
 #include <string.h>
 
 #include "../bench/plain.h"
+#include "../include/fm3130.h"
 #include "choice.h"
 #include "fenced.h"
 #include "hold.h"
 #include "rules.h"
 #include "verdicts.h"
-
-struct verdict fm3130_judge(const uint8_t *file, uint64_t file_length);
-uint64_t fm3130_fresh(uint8_t *image, uint64_t image_length);
 
 enum { ROOM = MOST_FILE + 4, MOST_EVENTS = 600 };
 
@@ -70,7 +68,7 @@ static void build(struct choices *choices)
     const uint8_t *bodies[4] = {image, memory, events, answers};
     uint8_t order = choose_byte(choices), gaps = choose_byte(choices);
     uint32_t count = choose_pair(choices) % (MOST_EVENTS + 1);
-    fm3130_fresh(image, sizeof image);
+    hold(fm3130_fresh(image, sizeof image) == ACCEPTED, "the fresh image is written");
     memset(memory, choose_byte(choices), sizeof memory);
     for (uint32_t i = 0; i < count; i++)
         events[i] = choose_byte(choices) & 7;
@@ -139,7 +137,7 @@ static void hold_verdict(int at_the_end)
     memcpy(file.start, made.bytes, made.length);
     memcpy(before, made.bytes, made.length);
     struct verdict must_be = verdict_on(made.bytes, made.length);
-    struct verdict is = fm3130_judge(file.start, file.length);
+    struct fm3130_judgement is = fm3130_judge(file.start, file.length);
     hold(is.number == must_be.number, "the number is the one of docs/CAPTURE.md");
     hold(is.place == must_be.place, "the place is the one of docs/CAPTURE.md");
     hold(memcmp(file.start, before, made.length) == 0, "the file is not written");

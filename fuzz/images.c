@@ -50,7 +50,8 @@ static void hold_as_a_list(struct call call, uint64_t ticks)
     plain_run(image, memory, events, ticks, answers);
     hold(memcmp(image, call.image.start, IMAGE_BYTES) == 0, "catching up equals so many ticks of the plain program");
     memcpy(image, old_image, IMAGE_BYTES);
-    fm3130_run(image, IMAGE_BYTES, memory, MEMORY_BYTES, events, ticks, answers, ticks);
+    struct fm3130_ran ran = fm3130_run(image, IMAGE_BYTES, memory, MEMORY_BYTES, events, ticks, answers, ticks);
+    hold(ran.number == ACCEPTED && ran.count == ticks, "a list of so many ticks is accepted");
     hold(memcmp(image, call.image.start, IMAGE_BYTES) == 0, "catching up equals a list run of so many ticks");
 }
 

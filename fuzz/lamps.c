@@ -88,8 +88,9 @@ static void hold_both_guards(struct call call, struct buffer record)
 static void hold_as_the_list_run(struct call call)
 {
     copy(&expected, &before, call);
-    fm3130_run(expected.image, IMAGE_BYTES, expected.memory, MEMORY_BYTES, expected.events, call.events.length,
-               expected.answers, call.events.length);
+    struct fm3130_ran ran = fm3130_run(expected.image, IMAGE_BYTES, expected.memory, MEMORY_BYTES, expected.events,
+                                       call.events.length, expected.answers, call.events.length);
+    hold(ran.number == ACCEPTED && ran.count == call.events.length, "the list run accepts the same list");
     hold(holds(call, &expected), "image, memory and answers are those of the list run");
 }
 

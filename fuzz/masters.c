@@ -239,11 +239,15 @@ static uint64_t carry_out(struct call call, struct transaction asked, struct buf
 {
     uint8_t events[MOST_WRITTEN];
     struct buffer room = {.start = events, .length = sizeof events};
-    struct buffer answers = {.start = answers_room, .length = make_events(asked, bytes, room).count};
+    struct fm3130_filled made = make_events(asked, bytes, room);
+    struct buffer answers = {.start = answers_room, .length = made.count};
     struct buffer front = {.start = told, .length = MOST_DATA};
-    fm3130_run(call.image.start, call.image.length, call.memory.start, call.memory.length, events, answers.length,
-               answers.start, answers.length);
-    return ask_told(asked, answers, front).count;
+    struct fm3130_ran ran = fm3130_run(call.image.start, call.image.length, call.memory.start, call.memory.length,
+                                       events, made.count, answers.start, answers.length);
+    struct fm3130_filled is = ask_told(asked, answers, front);
+    hold(made.number == DONE && is.number == DONE, "a transaction of few bytes is made and told");
+    hold(ran.number == ACCEPTED && ran.count == made.count, "a transaction's events are accepted");
+    return is.count;
 }
 
 /* A byte with flag 1 was stored, one with flag 0 was not. No address comes twice: there are fewer bytes than places. */

@@ -109,8 +109,9 @@ static void hold_as_the_list_run(struct call call, const struct contents *before
 {
     static struct contents expected;
     copy(&expected, before, call);
-    fm3130_run(expected.image, IMAGE_BYTES, expected.memory, MEMORY_BYTES, expected.events, call.events.length,
-               expected.answers, call.events.length);
+    struct fm3130_ran ran = fm3130_run(expected.image, IMAGE_BYTES, expected.memory, MEMORY_BYTES, expected.events,
+                                       call.events.length, expected.answers, call.events.length);
+    hold(ran.number == ACCEPTED && ran.count == call.events.length, "the list run accepts the same list");
     hold(holds(call, &expected), "an accepted call is the list run");
     copy(&expected, before, call);
     call.part->plain(expected.image, expected.memory, expected.events, call.events.length, expected.answers);
@@ -182,7 +183,7 @@ static struct buffer lend_answers(struct choices *choices, uint64_t events)
 static uint8_t hold_turn(struct call call, struct choices *choices, uint8_t holder, uint64_t *place)
 {
     uint8_t way = choose_byte(choices);
-    struct turn turn = {.master = way % 16 == 15 ? choose_near(choices, 3) : RIG + (way & 1), .call = call};
+    struct turn turn = {.master = way % 16 == 15 ? choose_near(choices, 3) : RIG + (way & 1u), .call = call};
     turn.bus = lend_bus(choices, holder);
     if (way & 0x40) {
         hold_ask(turn);

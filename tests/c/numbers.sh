@@ -1,8 +1,9 @@
 #!/usr/bin/env bash
 # SPDX-License-Identifier: Apache-2.0
 # numbers.sh FOLDER COMPILER...: no C of ours drops a number. A header made of the declarations of the entries has the
-# compiler refuse a call whose number nobody looks at; the host, the firmware, the tests and the guide's programs, which
-# guide.sh has left in FOLDER/guide, are compiled with it.
+# compiler refuse a call whose number nobody looks at; the host, the firmware, the tests, the fuzzer and the guide's
+# programs, which guide.sh has left in FOLDER/guide, are compiled with it. What a board of tests/controller has of its
+# own calls no entry and is for its processor alone.
 set -euo pipefail
 
 folder=$1/numbers
@@ -21,7 +22,7 @@ entries=$(grep -c '^LOOKED_AT' "$folder/numbers.h")
 compiles() { # FILE COMPILER...
     local file=$1
     shift
-    "$@" -D_POSIX_C_SOURCE=200809L -Ifirmware -Itests/wires -include "$folder/numbers.h" -c "$file" -o /dev/null
+    "$@" -D_DEFAULT_SOURCE -Ifirmware -Itests/wires -include "$folder/numbers.h" -c "$file" -o /dev/null
 }
 
 printf 'void drop(uint8_t *image);\nvoid drop(uint8_t *image) {\n    fm3130_fresh(image, 64);\n}\n' >"$folder/drop.c"
@@ -30,7 +31,9 @@ if [ "$entries" -lt 30 ] || compiles "$folder/drop.c" "$@" 2>/dev/null; then
     exit 1
 fi
 files=0
-for file in host/*.c firmware/*.c firmware/example/firmware.c tests/wires/*.c tests/c/*.c "$guide"/*.c; do
+boards='tests/controller/(m0|m4|riscv32)\.c'
+for file in host/*.c firmware/*.c firmware/example/firmware.c tests/{wires,c,controller}/*.c fuzz/*.c "$guide"/*.c; do
+    [[ $file =~ $boards ]] && continue
     compiles "$file" "$@" || { echo "numbers.sh: $file: see above" >&2; exit 1; }
     files=$((files + 1))
 done
