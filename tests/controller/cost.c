@@ -26,6 +26,12 @@ static volatile uint8_t scl, sda, is_pulled;
 static uint32_t places, tick_at, overhead, stack_overhead, began;
 static uint32_t ticks, ticks_waiting, ticks_then; /* done, for the pulse's end, at the last Clock */
 
+/* What is being measured, and what it took. */
+static measurable *measured;
+static uint32_t instructions;
+
+static uint32_t do_look(uint32_t event);
+
 /* ---- the board's four functions */
 
 int pins_read_scl(void) {
@@ -36,12 +42,17 @@ int pins_read_sda(void) {
     return sda & ~is_pulled;
 }
 
-/* What is measured up to here is the time that the master waits for SDA. */
+/*
+ * What is measured up to here is the time that the master waits for SDA after a fall. A tick or a
+ * power event that turns SDA does so at its end, and has a row of its own.
+ */
 static void turned(uint8_t pulled) {
     if (pulled != is_pulled && !scl) {
         uint32_t now = board_ticks();
         is_pulled = pulled;
-        row_note(&rows[SDA_TURNED], board_instructions(now - began) - overhead);
+        if (measured == do_look) {
+            row_note(&rows[SDA_TURNED], board_instructions(now - began) - overhead);
+        }
         began += board_ticks() - now; /* this note is not the device's */
     }
     is_pulled = pulled;
@@ -72,9 +83,6 @@ __attribute__((noinline)) static uint32_t do_nothing(uint32_t event) {
 }
 
 /* What stack_of calls: it notes the instructions as well. */
-static measurable *measured;
-static uint32_t instructions;
-
 __attribute__((noinline)) static uint32_t do_measured(uint32_t event) {
     began = board_ticks();
     uint32_t number = measured(event);
