@@ -394,7 +394,8 @@ static void begin_some(uint32_t kind) {
         master_starts();
         send("a slave byte", kind & 1 ? CLOCK_READ : MEMORY_READ);
     }
-    master_hangs((uint8_t)chance(0xFF), chance(7));
+    uint8_t byte = (uint8_t)chance(0xFF);
+    master_hangs(byte, chance(7));
     set_sda(0);
 }
 
