@@ -67,7 +67,7 @@ demo: setup lib host ## play a proving session through the C host, in words, and
 	@cmp build/demo/answers build/demo/script-answers
 	@printf '\nThe command fm3130 played %s and got the same answers. Its lamps, where they change:\n\n' $(SESSION)
 	@$(FM3130) lamps $(SESSION) --svg build/demo/lamps.svg | tee build/demo/lamps.txt | grep -e '<-' -e '^0'
-	@printf '\nThe last time it is lit by the old bit, which a write that hung had left: docs/GUIDE.md says what lit means.\n'
+	@printf '\nWhere it is lit last, it is by the old bit, which the write that hung had left: docs/GUIDE.md says what lit means.\n'
 	@printf '\nTo look at:\n'
 	@printf '  build/demo/%s\n' 'proving-session.txt  the words above' 'proving-session.svg  the wires, for a browser' \
 		'proving-session.vcd  the wires, for GTKWave or PulseView' 'lamps.txt            the lamps after each byte' \

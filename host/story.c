@@ -61,7 +61,11 @@ static void tell_gathered(struct story *story) {
                 is_on ? "outside a transfer" : "while the power is off");
     }
     if (story->ticks > 0) {
-        fprintf(out, "tick    %lu tick%s: ", story->ticks, story->ticks == 1 ? "" : "s");
+        fprintf(out, "tick    %lu tick%s", story->ticks, story->ticks == 1 ? "" : "s");
+        if (story->clocks > 0) {
+            fprintf(out, " after %u clocks of a byte", story->clocks);
+        }
+        fputs(": ", out);
         print_calendar(out, story->before);
         fputs(" -> ", out);
         print_calendar(out, story->device->image + IMAGE_CORE);
