@@ -73,11 +73,12 @@ demo: setup lib host ## play a proving session through the C host, in words, and
 		'proving-session.vcd  the wires, for GTKWave or PulseView' 'lamps.txt            the lamps after each byte' \
 		'lamps.svg            the lamps below the wires, for a browser'
 
-lib: archives ## the proved archives: build/native (this machine), build/official (x86-64); for C: build/lib
+lib: archives ## the proved archives: build/native (this machine), build/official (x86-64); for C and Python: build/lib
 	@for folder in build/native build/official; do tools/join-archives.sh "$$folder" $(ARCHIVES); done
 	@mkdir -p build/lib/x86_64
 	@cp build/official/libfm3130.a build/lib/x86_64/libfm3130.a
 	@cp $(if $(filter x86_64,$(MACHINE)),build/official,build/native)/libfm3130.a build/lib/libfm3130.a
+	@tools/shared-library.sh build/lib/libfm3130.a $(VERSION) $(CC)
 	@$(call pkg_config,$${pcfiledir}/../../include,$${pcfiledir}) >build/lib/fm3130.pc
 
 archives:
