@@ -19,6 +19,8 @@ ARCHIVES := rig view single line narrow mend sleep master handheld capture provi
 PREFIX ?= /usr/local
 
 CARGO_TEST := cargo test --offline --release --quiet
+# Debian's own, which has its packages; nothing is written beside the sources.
+PYTHON := /usr/bin/python3 -B
 FM3130 := cargo run --offline --release --quiet --package fm3130-cli --
 
 # The C side. The official archive is for x86-64, where it is also the native one.
@@ -43,17 +45,17 @@ pkg_config = sed -e 's|@INCLUDE@|$(1)|' -e 's|@LIB@|$(2)|' -e 's|@VERSION@|$(VER
 # How long `make fuzz` runs each of its targets.
 SECONDS := 200
 
-.PHONY: help test tests check demo lib archives install host ctest second compare quotations edits all-edits web web-test \
-	controller bench counts fuzz fmt fmt-check setup clean
+.PHONY: help test tests check demo lib archives install host ctest python python-test second compare quotations edits \
+	all-edits web web-test controller bench counts fuzz fmt fmt-check setup clean
 
 help: ## list these targets
-	@awk -F':.*## ' '/^[a-z-]+:.*## / { printf "make %-10s %s\n", $$1, $$2 }' Makefile
+	@awk -F':.*## ' '/^[a-z-]+:.*## / { printf "make %-11s %s\n", $$1, $$2 }' Makefile
 
 # It ends in `rt ci`, whose "N passed, 0 failed" is the last line printed.
-test: setup ## everything: set-up, all proofs from nothing (rt ci), the tests in C and Rust on what was just proved
+test: setup ## everything: set-up, all proofs from nothing (rt ci), the tests in C, Python and Rust on what was just proved
 	@tools/test.sh
 
-tests: lib ctest ## the tests in C and Rust alone
+tests: lib ctest python-test ## the tests in C, Python and Rust alone
 	@$(CARGO_TEST)
 
 check: ## prove the crates that changed, and run the programs
@@ -115,6 +117,17 @@ ctest: lib host ## the archives through the C headers (the official one too), th
 	@$(FM3130) events $(COUNTING) --part fm3164 -o build/ctest/counting.events
 	@cmp build/ctest/counting.events build/ctest/host/counting.events
 	@cmp build/ctest/counting.answers build/ctest/host/counting.answers
+
+python: lib ## the package for Python with its library, which needs no other file: build/python, for PYTHONPATH or pip
+	@rm -rf build/python
+	@mkdir -p build/python/fm3130
+	@cp python/pyproject.toml build/python/
+	@cp python/fm3130/*.py python/fm3130/py.typed build/lib/libfm3130.so build/python/fm3130/
+	@echo "build/python: PYTHONPATH=$(CURDIR)/build/python"
+
+python-test: lib ## the tests of the package for Python, its examples and the guide's
+	@tools/setup.sh python
+	@cd python && FM3130_LIBRARY="$(CURDIR)/build/lib/libfm3130.so" PYTHONPATH="$(CURDIR)/python" $(PYTHON) -m pytest --quiet
 
 second: ## the tests of the second program, which is written apart from the crates
 	@$(CARGO_TEST) --package second

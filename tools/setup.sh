@@ -1,9 +1,9 @@
 #!/bin/sh
 # SPDX-License-Identifier: Apache-2.0
-# setup.sh [bench|controller|fuzz|node|web]: sees that all that `make test` needs is on this Debian machine, and
+# setup.sh [bench|controller|fuzz|node|python|web]: sees that all that `make test` needs is on this Debian machine, and
 # installs what is missing; with a word also what the measurements, the emulated controllers, the fuzzer,
-# the page (node) or its tests in a browser (web) need. It says nothing and needs no network where all is there. The Rattle kit
-# itself is in no package: without `rt` it stops.
+# the page (node) or its tests in a browser (web) need; what `python` needs is part of the set-up without a word too.
+# It says nothing and needs no network where all is there. The Rattle kit itself is in no package: without `rt` it stops.
 set -eu
 
 fail() { printf 'setup: %s\n' "$*" >&2; exit 1; }
@@ -45,7 +45,11 @@ if [ "$(uname -m)" != x86_64 ]; then
     need_static_libc x86_64-linux-gnu-gcc libc6-dev-amd64-cross
 fi
 case ${1:-} in
-'') ;;
+'' | python)
+    need /usr/bin/python3 python3
+    need_python pytest python3-pytest
+    need_python smbus2 python3-smbus2 # to see that the package has its methods
+    ;;
 bench) need valgrind valgrind ;;
 controller)
     need qemu-system-arm qemu-system-arm
@@ -63,7 +67,7 @@ web)
     need chromedriver chromium-driver
     need_python selenium python3-selenium
     ;;
-*) fail "usage: setup.sh [bench|controller|fuzz|node|web]" ;;
+*) fail "usage: setup.sh [bench|controller|fuzz|node|python|web]" ;;
 esac
 
 [ -n "$missing" ] || exit 0

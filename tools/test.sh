@@ -1,7 +1,7 @@
 #!/bin/bash
 # SPDX-License-Identifier: Apache-2.0
 # test.sh: the whole test. `rt ci` proves every crate from nothing, tries the edits and runs the programs. Once all crates are
-# proved, the archives are made of just that, and the tests in C and Rust run on them (`make tests`) while `rt ci` goes on
+# proved, the archives are made of just that, and the tests in C, Python and Rust run on them (`make tests`) while `rt ci` goes on
 # with the edits. So no crate is proved a second time for the tests.
 #
 # The lines of `rt ci` are printed as they come, but the last one, "N passed, 0 failed", is held back to be the last of all, and
@@ -45,7 +45,7 @@ if [ -d target/must-fail ] && ! grep -q ' NOT PROVED' "$proofs_said"; then
         echo "test: the tests FAILED: what they said stands above and in $tests_said"
         exit 1
     }
-    echo "test: the tests in C and Rust passed in $(($(date +%s) - began)) s: $tests_said"
+    echo "test: the tests in C, Python and Rust passed in $(($(date +%s) - began)) s: $tests_said"
 fi
 
 status=0

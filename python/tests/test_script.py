@@ -1,0 +1,153 @@
+# SPDX-License-Identifier: Apache-2.0
+"""Scripts: the notation, what is told of bytes, and texts that are none."""
+
+import datetime
+import pathlib
+
+import pytest
+
+from fm3130 import Device, Fm3164, Fm31256, ScriptError, Set, event, script
+
+TOP = pathlib.Path(__file__).resolve().parents[2]
+
+
+def guide_lines(command):
+    """What docs/GUIDE.md shows below a command, up to the end of its block."""
+    lines = (TOP / "docs/GUIDE.md").read_text().split(command)[1].split("\n\n")[0].splitlines()
+    return [line[4:] for line in lines[1:]]
+
+
+def test_the_listing_is_that_of_the_guide():
+    text = "[ A0 01 23 5A ]  [ A0 01 23 [ A1 r ]"
+    _, *shown = guide_lines(f"$ echo '{text}' | fm3130 run - --memory memory.bin")
+    played = script(text)
+    assert str(played).splitlines() == shown
+    assert (played.read, played.all_acknowledged) == (b"\x5a", True)
+
+
+class Noting(Device):
+    """Notes the events that it is given."""
+
+    def __init__(self):
+        self.noted = b""
+        super().__init__()
+
+    def run(self, events):
+        listed = bytes(events)
+        self.noted += listed
+        return super().run(listed)
+
+
+@pytest.mark.parametrize(
+    "text, events",
+    [
+        ("[]", "00 01"),
+        ("[ D1 r:2 ]", "00 03 03 02 03 02 02 02 03 03" + " 03" * 8 + " 02" + " 03" * 9 + " 01"),
+        ("r+ R r-", " 03" * 8 + " 02" + " 03" * 18),
+        ("r", " 03" * 8 + " 02"),
+        ("r lost ]", " 03" * 9 + " 05 01"),
+        ("{01 1}*2 # a comment ]", "02 03 03 02 03 03"),
+        ("0x1,0X12 // ] ]", "02 02 02 02 02 02 02 03 03 02 02 02 03 02 02 03 02 03"),
+        ("lost gone power", "05 06 07"),
+        ("C1", "03 03 02 02 02 02 02 03 03"),
+    ],
+)
+def test_the_notation(text, events):
+    device = Noting()
+    script(text, device)
+    assert device.noted == bytes.fromhex(events)
+
+
+@pytest.mark.parametrize(
+    "text, line, column",
+    [
+        ("[ A0 lots ]", 1, 6),
+        ("[\n 5 ]", 2, 2),
+        ("t*0", 1, 2),
+        ("t*4294967296", 1, 2),
+        ("t*x", 1, 2),
+        ("* ]", 1, 1),
+        ("} ]", 1, 1),
+        ("{01", 1, 1),
+        ("{}", 1, 1),
+        ("{2}", 1, 1),
+        ("c1", 1, 1),
+        ("A0*2000000", 1, 1),
+        ("[ A0 ]\nlost\nA0 c1", 3, 4),
+    ],
+)
+def test_texts_that_are_none(text, line, column):
+    device = Device()
+    before = device.image
+    with pytest.raises(ScriptError) as raised:
+        script(text, device)
+    assert (raised.value.line, raised.value.column) == (line, column)
+    assert device.image == before
+
+
+def test_a_protected_byte_is_told():
+    played = script("[ D0 0E 08 ] [ A0 07 FF 11 ]")
+    assert not played.all_acknowledged
+    assert "  write 11h  NACK  memory 07FFh: protected, not stored" in str(played).splitlines()
+
+
+def test_a_bad_date_is_told():
+    played = script("[ D0 00 02 ] [ D0 06 31 04 ] [ D0 00 00 ]")
+    assert "  write 00h  NACK  00h RTC/Alarm Control: refused, not loaded" in str(played).splitlines()
+
+
+def test_nine_clocks_inside_a_byte_are_no_acknowledge():
+    """The device is one clock behind, so that no ninth clock here is its acknowledge."""
+    played = script("[ {1} A0 ]")
+    assert [one.acknowledged for one in played.happenings] == [None] * 4
+    assert played.read == b""
+
+
+def test_a_master_that_holds_the_ninth_bit_low():
+    assert script("[ {101000000} ]").happenings[1].acknowledged is True
+    assert script("[ {111000000} ]").happenings[1].acknowledged is False
+
+
+def test_ticks_are_slept():
+    device = Device()
+    device.set_calendar(datetime.datetime(2024, 2, 28))
+    played = script("t*86_400", device)
+    assert str(played) == "t*86400 86400 ticks: 2024-02-28 00:00:00 -> 2024-02-29 00:00:00"
+    assert "stands still" in str(script("t"))
+
+
+def test_power_is_off():
+    played = script("lost [ A0 ] power")
+    assert "  line  A0h  NACK  the power is off" in str(played).splitlines()
+
+
+def test_edges_of_a_part():
+    part = Fm3164()
+    played = script("c1*7 [ D0 0C 08 ] c1 [ D0 0D [ D1 r:4 ] t", part)
+    assert (played.read, part.counters) == (b"\x07\x00\x00\x00", (8, 0))
+    assert played.happenings[0].words == "7 edges on CNT1"
+
+
+def test_edges_of_a_set():
+    both = Set([(0, Fm31256()), (2, Fm3164())])
+    played = script("[ A4 00 10 5A ] c1@2*3 [ A2 ]", both)
+    assert both.device(2).counters == (3, 0)
+    assert [one.acknowledged for one in played.happenings if one.byte is not None] == [True] * 4 + [False]
+    for text in ("c1", "c1@1"):
+        with pytest.raises(ScriptError):
+            script(text, both)
+
+
+def test_every_script_of_the_tree_is_played_without_a_refusal():
+    scripts = sorted((TOP / "scripts").glob("*.bus"))
+    assert len(scripts) >= 8
+    for path in scripts:
+        device = Fm3164() if path.name == "counting.bus" else Device()
+        assert script(path.read_text(), device).happenings
+
+
+def test_the_clocks_of_a_byte():
+    assert event.written_byte(0xA0).hex(" ") == "03 02 03 02 02 02 02 02 03"
+    with pytest.raises(ValueError):
+        event.written_byte(256)
+    assert not event.is_acknowledged(b"\x00" * 8)
