@@ -14,12 +14,13 @@ Every refusal is raised as `Refused`, and every byte that was not acknowledged i
 
 from . import event
 from ._bus import COMPANION_ADDRESS, MEMORY_ADDRESS
+from ._notation import ScriptError
 from ._refused import NotAcknowledged, Refused
+from ._script import Happening, Played, script
 from .capture import Verdict, capture_file, judge
 from .device import Change, Device, mend
 from .family import Fm3164, Fm31256, Set
 from .lamps import Lamps
-from .script import Played, ScriptError, script
 from .smbus import SMBus, i2c_msg
 
 __version__ = "0.4.0"
@@ -30,6 +31,7 @@ __all__ = [
     "Device",
     "Fm31256",
     "Fm3164",
+    "Happening",
     "Lamps",
     "MEMORY_ADDRESS",
     "NotAcknowledged",

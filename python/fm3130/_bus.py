@@ -80,11 +80,10 @@ class OnTheBus:
         self.run([event.POWER_RETURNED])
 
     def _message(self, address: int, what: Union[bytes, int]) -> bytes:
-        reads = isinstance(what, int)
         self.run([event.START])
-        if not self._send(address << 1 | reads):
+        if not self._send(address << 1 | isinstance(what, int)):
             raise NotAcknowledged.address(address)
-        if reads:
+        if isinstance(what, int):
             return bytes(self._receive(goes_on=left > 1) for left in range(what, 0, -1))
         for place, byte in enumerate(what):
             if not self._send(byte):

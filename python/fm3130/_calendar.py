@@ -1,5 +1,8 @@
 # SPDX-License-Identifier: Apache-2.0
-"""Seven calendar bytes as a datetime, and back. The device's years 00 to 99 are taken as 2000 to 2099: these have its leap years."""
+"""Seven calendar bytes as a datetime, and back.
+
+The device's years 00 to 99 are taken as 2000 to 2099: these have its leap years.
+"""
 
 import datetime
 from typing import Optional

@@ -11,7 +11,7 @@ import functools
 import os
 import pathlib
 import platform
-from typing import Any, Dict, NamedTuple, Type, Union
+from typing import Any, Dict, List, NamedTuple, Tuple, Union
 
 
 class Ran(ctypes.Structure):
@@ -88,7 +88,7 @@ ENTRIES: Dict[str, Entry] = {
 }
 
 _BYTES = ctypes.POINTER(ctypes.c_uint8)
-_TYPES: Dict[str, tuple] = {
+_TYPES: Dict[str, Tuple[Any, ...]] = {
     "r": (_BYTES, ctypes.c_uint64),
     "w": (_BYTES, ctypes.c_uint64),
     "n": (NUMBER,),
@@ -100,7 +100,7 @@ _MACHINES = ("x86_64", "aarch64", "arm64")
 _NAME = "libfm3130.so"
 
 
-def _places() -> list:
+def _places() -> List[str]:
     """Where the library is looked for: the environment's word alone, or beside the package, in a built tree, on the system."""
     named = os.environ.get("FM3130_LIBRARY")
     if named:
@@ -136,12 +136,12 @@ def library() -> ctypes.CDLL:
 
 def _pointer(kind: str, value: Union[bytes, bytearray]) -> Any:
     """The address of a buffer, which is never null: an empty one is a spare byte that nobody reads."""
-    wanted: Type = bytes if kind == "r" else bytearray
+    wanted = bytes if kind == "r" else bytearray
     if not isinstance(value, wanted):
         raise TypeError(f"{wanted.__name__} are wanted, and not {type(value).__name__}")
     if not value:
         return (ctypes.c_uint8 * 1)()
-    if kind == "w":
+    if isinstance(value, bytearray):
         return (ctypes.c_uint8 * len(value)).from_buffer(value)
     return ctypes.cast(ctypes.c_char_p(value), _BYTES)
 
@@ -161,7 +161,7 @@ def call(name: str, *arguments: Any) -> Any:
     written = [id(value) for kind, value in zip(kinds, arguments) if kind == "w"]
     if len(set(written)) != len(written):
         raise ValueError(f"{name}: two buffers that are written are the same one")
-    passed: list = []
+    passed: List[Any] = []
     for kind, value in zip(kinds, arguments):
         if kind in "rw":
             passed += [_pointer(kind, value), len(value)]

@@ -22,9 +22,9 @@ class ScriptError(ValueError):
     """A text that is no script: nothing was played.
 
     >>> import fm3130
-    >>> fm3130.script("[ A0 01 lots ]")
+    >>> fm3130.script("[ A0 01 lots ]")  # doctest: +ELLIPSIS
     Traceback (most recent call last):
-    fm3130.ScriptError: 1:9: unknown word lots; known: [ ] r r+ R r- t lost gone power, edges as c1 or c1@2, bytes as A0 or 0xA0, clocks as {0110}
+    fm3130.ScriptError: 1:9: unknown word lots; known: [ ] r r+ R r- t lost gone power, ...
     """
 
     def __init__(self, line: int, column: int, words: str) -> None:

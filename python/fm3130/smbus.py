@@ -187,7 +187,7 @@ class SMBus:
         """
         if not i2c_msgs:
             raise invalid("no messages")
-        messages: List[Message] = [(one.addr, one.len if one.flags & READ_FLAG else bytes(one)) for one in i2c_msgs]
+        messages = [_message(one) for one in i2c_msgs]
         for one, data in zip(i2c_msgs, self._opened().messages(messages)):
             for place, byte in enumerate(data):
                 one.buf[place] = byte
@@ -203,6 +203,13 @@ class SMBus:
 
     def _read(self, address: int, register: Optional[int], count: int) -> bytes:
         return self._transfer(address, b"" if register is None else _byte(register), count)
+
+
+def _message(message: Any) -> Message:
+    """A message as a device takes it; what other flags ask for is not done here, and so it is said."""
+    if message.flags & ~READ_FLAG:
+        raise _unsupported(f"flags {message.flags:#06x} of a message")
+    return message.addr, message.len if message.flags & READ_FLAG else bytes(message)
 
 
 def _byte(value: int) -> bytes:

@@ -140,8 +140,11 @@ def with_bad_core():
 
 
 def test_an_invalid_calendar_is_none():
-    device = Device(image=with_bad_core())
-    assert device.calendar is None
+    assert Device(image=with_bad_core()).calendar is None
+    image = bytearray(Device().image)
+    for place, byte in ((18, 0), (15, 0x60), (15, 0x0A), (20, 0x13)):  # day, seconds twice, month
+        changed = bytes(image[:place]) + bytes([byte]) + bytes(image[place + 1 :])
+        assert Device(image=changed).calendar is None
 
 
 def test_mended():
@@ -218,9 +221,14 @@ def test_events_are_a_list(events):
 
 def test_the_masters_refusals():
     device = Device()
+    device.write(0x0010, b"\x01")
+    before = device.image
     refused_by(1, device.write, 0, bytes(257))
+    refused_by(1, device.read, 0, 257)
     refused_by(2, device.read, 0, 0)
+    refused_by(3, device.write, 0x2000, b"\x01")
     refused_by(3, device.read, 0x2000, 1)
+    assert device.image == before
     with pytest.raises(ValueError):
         device.read(-1, 1)
     with pytest.raises(ValueError):

@@ -163,6 +163,7 @@ def test_duties_of_the_caller_are_kept():
         _library.call("fm3130_fresh")
     with pytest.raises(ValueError):
         _library.call("fm3130_trim_propose", 2**31)
+    assert type(_library.library()) is ctypes.PyDLL  # no other thread writes to a buffer during a call
     assert _library.call("fm3130_fresh", bytearray()) == 2
     assert _library.call("fm3130_trim_residue", -600, 1, 1) == -88
 

@@ -3,6 +3,7 @@
 
 import datetime
 import pathlib
+import subprocess
 
 import pytest
 
@@ -36,6 +37,10 @@ class Noting(Device):
         listed = bytes(events)
         self.noted += listed
         return super().run(listed)
+
+    def sleep(self, seconds):
+        self.noted += bytes([event.TICK]) * seconds
+        super().sleep(seconds)
 
 
 @pytest.mark.parametrize(
@@ -128,6 +133,11 @@ def test_edges_of_a_part():
     assert played.happenings[0].words == "7 edges on CNT1"
 
 
+def test_an_edge_is_not_on_the_bus():
+    """So the read before it is the last, and is not acknowledged."""
+    assert script("[ D1 r c1 ]", Fm3164()).happenings[2].acknowledged is False
+
+
 def test_edges_of_a_set():
     both = Set([(0, Fm31256()), (2, Fm3164())])
     played = script("[ A4 00 10 5A ] c1@2*3 [ A2 ]", both)
@@ -144,6 +154,21 @@ def test_every_script_of_the_tree_is_played_without_a_refusal():
     for path in scripts:
         device = Fm3164() if path.name == "counting.bus" else Device()
         assert script(path.read_text(), device).happenings
+
+
+@pytest.mark.parametrize("path", sorted((TOP / "scripts").glob("*.bus")), ids=lambda path: path.name)
+def test_the_events_are_those_of_the_command(path, tmp_path):
+    """`make tests` has built the command before; elsewhere it may be missing."""
+    command = TOP / "build/cargo/release/fm3130"
+    if not command.exists():
+        pytest.skip("the command fm3130 is not built")
+    if path.name == "counting.bus":
+        pytest.skip("for another part")
+    written = tmp_path / "events"
+    subprocess.run([command, "events", path, "-o", written], check=True)
+    device = Noting()
+    script(path.read_text(), device)
+    assert device.noted == written.read_bytes()
 
 
 def test_the_clocks_of_a_byte():

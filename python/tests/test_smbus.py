@@ -137,6 +137,14 @@ def test_what_smbus2_refuses(fm3130_bus, block):
         fm3130_bus.write_i2c_block_data(0x68, 0x09, block)
 
 
+def test_messages_with_other_flags(fm3130_bus, fm3130_device):
+    before = fm3130_device.image
+    message = i2c_msg.write(0x50, [0x00])
+    message.flags = 0x4000  # I2C_M_NOSTART
+    assert errno_of(fm3130_bus.i2c_rdwr, message) == errno.EOPNOTSUPP
+    assert fm3130_device.image == before
+
+
 def test_a_value_that_is_no_byte(fm3130_bus):
     with pytest.raises(OverflowError):
         fm3130_bus.write_byte_data(0x68, 0x09, 0x100)

@@ -85,15 +85,22 @@ def script(text: str, device: Union[Device, Part, Set, None] = None) -> Played:
 def _check(item: Item, device: Union[Device, Part, Set]) -> None:
     """Raises what this device cannot be asked for, before anything is played."""
     if item.word.startswith(("c1", "c2")):
-        names_device = "@" in item.word
-        if isinstance(device, Device):
-            raise ScriptError(item.line, item.column, f"{item.word} is an edge, and the FM3130 has no counters")
-        if names_device != isinstance(device, Set):
-            raise ScriptError(item.line, item.column, f"{item.word}: an edge names its device exactly in a set")
-        if names_device and int(item.word[3:]) not in device.selects:
-            raise ScriptError(item.line, item.column, f"{item.word} names no device of the set")
+        problem = _problem_of_edge(item.word, device)
+        if problem:
+            raise ScriptError(item.line, item.column, problem)
     if item.word != "t" and item.times > _MOST_EVENTS:
         raise ScriptError(item.line, item.column, f"{item.times} times are too many here; the command fm3130 plays them")
+
+
+def _problem_of_edge(word: str, device: Union[Device, Part, Set]) -> str:
+    """Why a device has no such edge; empty if it has."""
+    if isinstance(device, Device):
+        return f"{word} is an edge, and the FM3130 has no counters"
+    if ("@" in word) != isinstance(device, Set):
+        return f"{word}: an edge names its device exactly in a set"
+    if isinstance(device, Set) and int(word[3:]) not in device.selects:
+        return f"{word} names no device of the set"
+    return ""
 
 
 def _next_ends(following: Sequence[Item]) -> bool:
