@@ -20,7 +20,8 @@ _MOST_EVENTS = 1_000_000
 class Happening(NamedTuple):
     """One thing that happened: its notation, what it means, and of a byte its value and its acknowledge.
 
-    `acknowledged` is the device's where a byte was written and the master's where it was read; None for all that is no byte.
+    `acknowledged` is the device's where a byte was written and the master's where it was read; False where a byte was to be
+    and none came about; None for all else.
     """
 
     notation: str
@@ -51,8 +52,8 @@ class Played:
 
     @property
     def all_acknowledged(self) -> bool:
-        """Whether the device acknowledged every byte that was written."""
-        return all(one.acknowledged for one in self.happenings if one.byte is not None and not one.is_read)
+        """Whether the device acknowledged every byte that the script writes."""
+        return not any(one.acknowledged is False and not one.is_read for one in self.happenings)
 
     def __str__(self) -> str:
         return "\n".join(map(str, self.happenings))
@@ -109,6 +110,11 @@ def _next_ends(following: Sequence[Item]) -> bool:
     return on_the_bus in (["["], ["]"])
 
 
+def _braces(clocks: Sequence[int]) -> str:
+    """Clocks as a script writes them."""
+    return "{" + "".join("1" if one == event.CLOCK_HIGH else "0" for one in clocks) + "}"
+
+
 class _Player:
     """Plays items one by one and notes what happened."""
 
@@ -155,15 +161,19 @@ class _Player:
         """Single clocks: nine of them are a byte, if one begins here."""
         if len(clocks) == 9:
             return self._byte(bytes(clocks))
-        digits = "".join("1" if one == event.CLOCK_HIGH else "0" for one in clocks)
-        self._tell(clocks, f"{{{digits}}}", f"{len(clocks)} clocks")
+        self._stray(clocks)
+
+    def _stray(self, clocks: Sequence[int], acknowledged: Optional[bool] = None) -> None:
+        """Clocks that are no byte by themselves."""
+        self.device.run(clocks)
+        words = "inside a byte" if self.is_started else "outside a transfer"
+        self.happenings.append(Happening(_braces(clocks), words, acknowledged=acknowledged))
 
     def _byte(self, clocks: bytes) -> None:
-        """Nine clocks. Where a byte is under way already they are none, and nothing of them is an acknowledge."""
+        """Nine clocks. Outside a transfer, or where one is under way, they are no byte, and nothing acknowledges it."""
         first = self._heard()
-        if first[_image.CLOCKS_DONE]:
-            digits = "".join("1" if one == event.CLOCK_HIGH else "0" for one in clocks)
-            return self._tell(clocks, f"{{{digits}}}", "9 clocks, begun inside a byte")
+        if first[_image.CLOCKS_DONE] or not self.is_started:
+            return self._stray(clocks, acknowledged=False)
         shown = self.device.run(clocks[:8])
         eighth = self._heard()
         ninth = self.device.run(clocks[8:])[0]
