@@ -7,6 +7,8 @@ import { byteWords, oneDecimal } from './text.mjs';
 
 /** Where the wires end at most. */
 const RIGHT = WIDTH - 18;
+/** How far the wires go on after the last cell. */
+const REST = 12;
 /** The width of a clock that carries data. */
 const CLOCK = 13;
 /** The width of the ninth clock, which has words in it. */
@@ -33,6 +35,13 @@ const PIN_LOW = 132;
 const LAMP = 156; // the first lamp's line, and how far the next is below it
 const NEXT_LAMP = 6;
 const LAMPS = [0, 1, 2, 3, 4, 5, 6, 7];
+
+/** The number of a lamp, before its line. */
+const lampNumber = (lamp) => text(LEFT - 4, LAMP + NEXT_LAMP * lamp + 3, 8, 'end', FAINT, `${lamp}`);
+
+/** The name of the lamps, and the numbers of the first and the last. */
+const LAMP_NAMES = text(20, LAMP + NEXT_LAMP * 3.5 + 3, 10, 'start', FAINT, 'lamps')
+  + [LAMPS.at(0), LAMPS.at(-1)].map(lampNumber).join('');
 
 /** The height of a row, with or without the eight lamps. */
 export function heightOfRow(hasLamps) {
@@ -97,7 +106,7 @@ export class Row {
     this.wires = { ...wires };
     const names = [['SCL', CLOCK_LOW], ['SDA', DATA_LOW], ['ACS', PIN_LOW]];
     this.#shapes = names.map(([name, y]) => text(20, y - 4, 10, 'start', FAINT, name)).join('')
-      + (wires.lamps === null ? '' : text(20, LAMP + NEXT_LAMP * 3.5 + 3, 10, 'start', FAINT, 'lamps'))
+      + (wires.lamps === null ? '' : LAMP_NAMES)
       + pinLabel(LEFT, wires.pin);
     this.#clock = `M${LEFT} ${clockHeight(wires.clockIsHigh)}`;
   }
@@ -202,6 +211,11 @@ export class Row {
     this.#pinFrom = this.#x;
     this.wires.pin = pin;
     this.#shapes += pinLabel(this.#x, pin);
+  }
+
+  /** The wires go on a little, so that what the last event left is seen. */
+  rest() {
+    this.#x += REST;
   }
 
   /** The row as text, with all wires drawn to its end. */

@@ -63,8 +63,12 @@ class Drawing {
   }
 
   page(title) {
+    const isCut = this.#cells > MOST_CELLS;
+    if (!isCut) {
+      this.#row.rest();
+    }
     const rows = [...this.#rows, this.#row.text()];
-    return pageOf(title, rows, heightOfRow(this.hasLamps), this.#cells > MOST_CELLS);
+    return pageOf(title, rows, heightOfRow(this.hasLamps), isCut);
   }
 
   /** Draws a cell where there is room for it, if the drawing is not full. */

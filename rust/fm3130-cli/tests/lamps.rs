@@ -169,6 +169,27 @@ fn the_drawing_has_the_lamps_below_the_wires() {
     // Eight lines a stretch, at most one of them lit.
     let dark = lamps.matches("stroke=\"#d5dae1\"").count();
     assert_eq!((dark + lamps.matches(lit).count()) % 8, 0);
+    // The session ends with a dark lamp, and the last Stop has it so: all eight lines go on after it.
+    let stretches = lamps.lines().rev().filter(|line| is_lamp(line));
+    let ends: Vec<bool> = stretches.take(8).map(|line| line.contains(lit)).collect();
+    assert_eq!(ends, [false; 8]);
+    let last = lamps.lines().rfind(|line| is_lamp(line)).unwrap();
+    let (from, to) = stretch_of(last);
+    assert!(from < to, "{last}");
+}
+
+fn is_lamp(line: &str) -> bool {
+    line.contains("stroke=\"#e0a100\"") || line.contains("stroke=\"#d5dae1\"")
+}
+
+/// From where to where a line of the drawing goes that has two points.
+fn stretch_of(line: &str) -> (f64, f64) {
+    let words: Vec<&str> = line.split(['M', ' ', 'H', '"']).collect();
+    let place = words.iter().position(|word| word.is_empty()).unwrap() + 1;
+    (
+        words[place].parse().unwrap(),
+        words[place + 2].parse().unwrap(),
+    )
 }
 
 /// To draw docs/proving-session.svg anew: `fm3130 lamps scripts/proving-session.bus --svg` with its name.

@@ -232,9 +232,12 @@ impl Listener for Drawing<'_> {
     }
 
     fn finish(&mut self) -> Outcome {
-        let last = std::mem::replace(&mut self.row, Row::new(Wires::free()));
-        self.rows.push(last.into_text());
+        let mut last = std::mem::replace(&mut self.row, Row::new(Wires::free()));
         let is_cut = self.cells > MOST_CELLS;
+        if !is_cut {
+            last.rest();
+        }
+        self.rows.push(last.into_text());
         if is_cut {
             say_aside(&format!(
                 "the drawing stops after {MOST_CELLS} cells; --vcd has no such limit"

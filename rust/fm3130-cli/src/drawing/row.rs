@@ -20,6 +20,8 @@ pub const EDGE: f64 = 30.0;
 pub const ASIDE: f64 = 66.0;
 /// The width of a whole byte.
 pub const BYTE: f64 = 8.0 * CLOCK + NINTH;
+/// How far the wires go on after the last cell.
+const REST: f64 = 12.0;
 /// The width of a clock that carries data.
 const CLOCK: f64 = 13.0;
 /// The width of the ninth clock, which has words in it.
@@ -110,6 +112,11 @@ impl Row {
         if wires.lamps.is_some() {
             let y = LAMP + NEXT_LAMP * 3.5 + 3.0;
             shapes.push_str(&text(20.0, y, 10.0, "start", FAINT, "lamps"));
+            for lamp in [0, Report::LAMPS - 1] {
+                let y = LAMP + NEXT_LAMP * f64::from(lamp) + 3.0;
+                let number = lamp.to_string();
+                shapes.push_str(&text(LEFT - 4.0, y, 8.0, "end", FAINT, &number));
+            }
         }
         if wires.has_pin {
             shapes.push_str(&pin_words(LEFT, wires.pin));
@@ -375,6 +382,11 @@ impl Row {
         let size = if name.len() > 3 { 9.0 } else { 11.0 };
         self.shapes
             .push_str(&text(middle, BOX_TEXT, size, "middle", INK, name));
+    }
+
+    /// The wires go on a little, so that what the last event left is seen.
+    pub fn rest(&mut self) {
+        self.x += REST;
     }
 
     /// The row as text, with all wires drawn to its end.
