@@ -46,7 +46,7 @@ pkg_config = sed -e 's|@INCLUDE@|$(1)|' -e 's|@LIB@|$(2)|' -e 's|@VERSION@|$(VER
 SECONDS := 200
 
 .PHONY: help test tests check demo lib archives install host ctest python python-test second compare quotations edits \
-	all-edits web web-test controller bench counts fuzz fmt fmt-check setup clean
+	all-edits twins web web-test controller bench counts fuzz fmt fmt-check setup clean
 
 help: ## list these targets
 	@awk -F':.*## ' '/^[a-z-]+:.*## / { printf "make %-11s %s\n", $$1, $$2 }' Makefile
@@ -144,6 +144,10 @@ edits: lib ## docs/EDITS.md, from what the prover last said of each edit (rt mus
 # More than an hour on two cores, so `make test` tries those of crates/*/must-fail alone.
 all-edits: ## try every edit, the further ones of edits/ too
 	@tools/all-edits.sh
+
+# Minutes for each: a twin proves all that stands on the rule it changes, up to its law.
+twins: check ## try the twins: devices with a rule wrong in definition and code alike, each refused by a law alone
+	@tools/twins.py
 
 web: lib ## the device for browsers and Node: build/web, with one page that needs no other file, fm3130.html
 	@tools/setup.sh node

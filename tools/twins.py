@@ -1,0 +1,99 @@
+#!/usr/bin/python3
+# SPDX-License-Identifier: Apache-2.0
+"""twins.py [NAME...]: tries the twins of twins/, or those named: devices with a rule that is wrong in definition and code alike.
+
+Nothing but a law in other words can refuse a twin, so it passes this test only if every crate below the law is proved with it and
+the law is not: the crate and the file of proofs that its head names. A twin is a text: lines of `#` first, among them
+
+    # Refused by: CRATE, `LAW` (proofs/FILE.antt).
+    # Prove: CRATE
+
+and then places, each `file:`, `old:` and `new:`, an `old` that stands there once.
+
+They are tried on a copy of the crates outside the repository, over what is proved already; what the prover said of each is in
+build/log/twins/NAME.txt.
+"""
+import os
+import re
+import shutil
+import subprocess
+import sys
+import tempfile
+import time
+
+TOP = os.path.dirname(os.path.dirname(os.path.abspath(__file__)))
+
+
+class Twin:
+    """A twin as its file says it."""
+
+    def __init__(self, path):
+        text = open(path, encoding="utf-8").read()
+        self.name = os.path.basename(path)[: -len(".twin")]
+        refused = re.search(r"^# Refused by: (\w+),.*?\((proofs/[\w/]+\.antt)\)", text, re.M | re.S)
+        prove = re.search(r"^# Prove: (.+)$", text, re.M)
+        self.places = re.findall(r"^file: (.+)\nold: (.+)\nnew: (.*)$", text, re.M)
+        if not (refused and prove and self.places):
+            sys.exit(f"twins: {path} lacks who refuses it, what is to be proved, or a place")
+        self.law, self.proofs = refused.groups()
+        self.crates = prove.group(1).split()
+
+    def apply(self, folder):
+        """Changes the crates of a copy; says what could not be changed."""
+        for file, old, new in self.places:
+            path = os.path.join(folder, file)
+            text = open(path, encoding="utf-8").read()
+            if text.count(old) != 1:
+                return f"{file}: {old!r} stands there {text.count(old)} times"
+            with open(path, "w", encoding="utf-8") as out:
+                out.write(text.replace(old, new))
+        return None
+
+    def fault(self, said):
+        """What is wrong with what the prover said; nothing if the law, and it alone, refused the twin."""
+        unproved = re.findall(r"^rt: (\w+) NOT PROVED", said, re.M)
+        if not unproved:
+            return "it was proved: no law refuses it"
+        if unproved[0] != self.law:
+            return f"{unproved[0]} refused it, before {self.law}"
+        first = re.search(r"crates/\w+/((?:proofs|specs|src)/\S+?):\d+:\d+: error", said)
+        if not first or first.group(1) != self.proofs:
+            return f"{self.law} refused it in {first.group(1) if first else 'no file'}, not in {self.proofs}"
+        return None
+
+
+def tried(twin):
+    """Tries a twin on a copy of its own; what is wrong, or nothing."""
+    with tempfile.TemporaryDirectory() as folder:
+        for part in ("crates", "target"):
+            shutil.copytree(os.path.join(TOP, part), os.path.join(folder, part), symlinks=True)
+        shutil.copy(os.path.join(TOP, "crates.txt"), folder)
+        fault = twin.apply(folder)
+        if fault:
+            return fault
+        ran = subprocess.run(["rt", "check", *twin.crates], cwd=folder, text=True, capture_output=True)
+        said = ran.stdout + ran.stderr
+        log = os.path.join(TOP, "build/log/twins", twin.name + ".txt")
+        os.makedirs(os.path.dirname(log), exist_ok=True)
+        with open(log, "w", encoding="utf-8") as out:
+            out.write(said)
+        return twin.fault(said)
+
+
+def main(names):
+    folder = os.path.join(TOP, "twins")
+    names = names or sorted(file[: -len(".twin")] for file in os.listdir(folder) if file.endswith(".twin"))
+    failed = 0
+    for number, name in enumerate(names, 1):
+        twin = Twin(os.path.join(folder, name + ".twin"))
+        began = time.time()
+        fault = tried(twin)
+        failed += fault is not None
+        verdict = f"NOT REFUSED AS MEANT: {fault}" if fault else f"refused by {twin.law}"
+        print(f"twin {number} of {len(names)}: {name}: {verdict} ({time.time() - began:.0f} s)", flush=True)
+    print(f"twins: {len(names) - failed} passed, {failed} failed")
+    return 1 if failed else 0
+
+
+if __name__ == "__main__":
+    sys.exit(main(sys.argv[1:]))
