@@ -52,6 +52,12 @@ void story_begin(struct story *story, FILE *out, struct device *device) {
     }
 }
 
+/* What passed: where several ticks turned the seconds alone, it was more than one of them. */
+static const char *passed_name(const struct story *story) {
+    int are_seconds = story->rolled == FM3130_ROLLED_SECONDS && story->ticks > 1;
+    return are_seconds ? "seconds" : rolled_name(story->rolled);
+}
+
 /* Tells of ticks and of clocks outside a transfer. */
 static void tell_gathered(struct story *story) {
     FILE *out = story->out;
@@ -69,7 +75,7 @@ static void tell_gathered(struct story *story) {
         print_calendar(out, story->before);
         fputs(" -> ", out);
         print_calendar(out, story->device->image + IMAGE_CORE);
-        fprintf(out, ", %s passed\n", rolled_name(story->rolled));
+        fprintf(out, ", %s passed\n", passed_name(story));
     }
     story->loose = 0;
     story->ticks = 0;

@@ -17,6 +17,9 @@ const ROLLED = [
   'a year passed',
 ];
 
+/** What so many ticks did: where several turned the seconds alone, it was more than one of them. */
+const passedWords = (rolled, count) => (rolled === 1 && count > 1 ? 'seconds passed' : ROLLED[rolled]);
+
 const LAMPS = [0, 1, 2, 3, 4, 5, 6, 7];
 
 /** The line of a happening. */
@@ -98,7 +101,7 @@ function tickWords(report) {
   const rose = ~before.registers[CONTROL] & after.registers[CONTROL];
   const flags = [[AF, ', AF set'], [CF, ', CF set']].filter(([flag]) => rose & flag).map(([, said]) => said);
   const pins = pinChanges.map(({ tick, pin }) => `; ACS pin after tick ${tick}: ${pinWords(pin)}`);
-  return `${words}: ${calendarWords(before.core)} -> ${calendarWords(after.core)}, ${ROLLED[rolled]}`
+  return `${words}: ${calendarWords(before.core)} -> ${calendarWords(after.core)}, ${passedWords(rolled, count)}`
     + flags.join('') + pins.join('');
 }
 

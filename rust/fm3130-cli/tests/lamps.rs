@@ -26,7 +26,7 @@ fn the_proving_session_ends_with_the_hang_of_the_minutes_and_the_duty() {
             "........  lost    main power lost, backup present  <- lamp 0 dark",
             "*.......  ]       Stop  <- lamp 0 lit",
             "........  t*3     3 ticks: 09:00:04, 15/11/26, day 7 -> 09:00:07, 15/11/26, day 7, \
-             a second passed  <- lamp 0 dark",
+             seconds passed  <- lamp 0 dark",
             // Read as lit; then the Stop that cuts the byte 00h; then the old bit is read.
             "*.......  ]       Stop  <- lamp 0 lit",
             "........  ]       Stop  <- lamp 0 dark",

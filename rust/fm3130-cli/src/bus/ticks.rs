@@ -68,6 +68,14 @@ impl TickReport {
         }
     }
 
+    /// What passed: where several ticks turned the seconds alone, it was more than one of them.
+    fn passed(&self) -> String {
+        match self.rolled {
+            Rolled::Seconds if self.count > 1 => "seconds passed".to_string(),
+            rolled => rolled.to_string(),
+        }
+    }
+
     /// The flags that the ticks set.
     fn flags_set(&self) -> Vec<&'static str> {
         let control = registers::CONTROL as u8;
@@ -94,7 +102,7 @@ impl fmt::Display for TickReport {
             (Some(before), Some(after)) if self.rolled != Rolled::Nothing => (before, after),
             _ => return write!(formatter, ": {}", self.reason_of_standstill()),
         };
-        write!(formatter, ": {before} -> {after}, {}", self.rolled)?;
+        write!(formatter, ": {before} -> {after}, {}", self.passed())?;
         for words in self.flags_set() {
             write!(formatter, ", {words}")?;
         }
