@@ -1,2 +1,5 @@
 -- SPDX-License-Identifier: Apache-2.0
-pub mod Tick
+pub mod Flags
+pub mod Alarm
+pub mod Masks
+pub mod Counted

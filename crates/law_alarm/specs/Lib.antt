@@ -1,2 +1,4 @@
 -- SPDX-License-Identifier: Apache-2.0
-pub mod Tick
+pub mod Second
+pub mod Alarm
+pub mod Counted

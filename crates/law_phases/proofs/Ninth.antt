@@ -116,7 +116,8 @@ low-goes-on =
 loaded-steps : (c : chip.Companion) (b : ℕ) → loadedOf c b .address ≡ (c .address + 1) % 15
 unfolding loadedOf
 loaded-steps c b =
-    by-cond (λ (x : chip.Companion). steppedOf x .address ≡ (c .address + 1) % 15) (eqb (c .address) 0) (λ h. refl) (λ h. refl)
+    by-cond (λ (x : chip.Companion). steppedOf x .address ≡ (c .address + 1) % 15) (eqb (c .address) 0) (λ h. refl)
+    (λ h. refl)
 
 memory-steps : (b a : ℕ) (c : chip.Companion) (m : List ℕ) (d : Bool)
     → runOf (live (Read Memory 7 b) a c) m (cond d 3 2 ∷ []) .state ≡ live (Read Memory 8 b) ((a + 1) % 8192) c

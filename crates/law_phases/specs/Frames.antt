@@ -1,6 +1,6 @@
 -- SPDX-License-Identifier: Apache-2.0
--- 01, Transfers: "Start at any moment begins a slave byte; Stop at any moment ends the transfer. Either drops a part byte."
--- On main power, in every phase, with any memory.
+-- 01, Transfers: "Start at any moment begins a slave byte; Stop at any moment ends the transfer. Either drops a part
+-- byte." On main power, in every phase, with any memory.
 --   live                          a device on main power
 --   StartBegins, StopEnds         what a Start leaves, what a Stop leaves
 --   Opens, SlaveOpens             the four slave bytes after a Start, and what each opens
@@ -38,8 +38,8 @@ pub record StopLeaves (q : Phase) (a : ℕ) (c : chip.Companion) (m : List ℕ) 
 abbrev pub StopEnds : Type 0
 StopEnds = (q : Phase) (a : ℕ) (c : chip.Companion) (m : List ℕ) → StopLeaves q a c m
 
--- Auxiliary: after these events the transfer stands here, all else is as it was, and the line of the tenth event, the ninth
--- clock, at which the master leaves it high, is low.
+-- Auxiliary: after these events the transfer stands here, all else is as it was, and the line of the tenth event, the
+-- ninth clock, at which the master leaves it high, is low.
 pub record Opens (q : Phase) (a : ℕ) (c : chip.Companion) (m es : List ℕ) (stands : Phase) : Type 0 where
   pub state : runOf (live q a c) m es .state ≡ live stands a c
   pub memory : runOf (live q a c) m es .memory ≡ m

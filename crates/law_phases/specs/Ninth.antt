@@ -1,6 +1,6 @@
 -- SPDX-License-Identifier: Apache-2.0
--- 01, Transfers: of a read, "The master's low ninth bit continues, high ends". On main power, with any memory; eight clocks
--- of the byte are done, and the address has stepped on.
+-- 01, Transfers: of a read, "The master's low ninth bit continues, high ends". On main power, with any memory; eight
+-- clocks of the byte are done, and the address has stepped on.
 --   clocks, lines          Clocks by the master's lines; bit 0 of each answer
 --   HighEnds               a high ninth bit: the transfer is over, whatever Clocks follow
 --   LowGoesOn              a low ninth bit: the next Clock begins the byte at the address
@@ -31,8 +31,8 @@ lines answers = map (λ (n : ℕ). n % 2) answers
 abbrev pub bits : List Bool → List ℕ
 bits ds = map (λ (d : Bool). cond d 1 0) ds
 
--- "High ends": no transfer is under way, and all else is as it was; and "A Clock .. after it has ended, changes nothing and
--- its line is the master's", whatever Clocks follow. Of a read of either device.
+-- "High ends": no transfer is under way, and all else is as it was; and "A Clock .. after it has ended, changes nothing
+-- and its line is the master's", whatever Clocks follow. Of a read of either device.
 pub record OverAfterHigh (side : Side) (b a : ℕ) (c : chip.Companion) (m : List ℕ) (ds : List Bool) : Type 0 where
   pub state : runOf (live (Read side 8 b) a c) m (3 ∷ clocks ds) .state ≡ live Idle a c
   pub memory : runOf (live (Read side 8 b) a c) m (3 ∷ clocks ds) .memory ≡ m
@@ -51,8 +51,8 @@ registerList r =
     ∷ r .alarm .seconds ∷ r .alarm .minutes ∷ r .alarm .hours ∷ r .alarm .date ∷ r .alarm .month
     ∷ r .setup ∷ []
 
--- "Low .. continues": all is as it was, and the line of the Clock after the ninth, at which the master leaves it high, is the
--- high bit of the byte at the current address; from then on that byte is fixed.
+-- "Low .. continues": all is as it was, and the line of the Clock after the ninth, at which the master leaves it high, is
+-- the high bit of the byte at the current address; from then on that byte is fixed.
 pub record GoesOn (side : Side) (b a : ℕ) (c : chip.Companion) (m : List ℕ) (byte : ℕ) : Type 0 where
   pub state : runOf (live (Read side 8 b) a c) m (2 ∷ 3 ∷ []) .state ≡ live (Read side 1 byte) a c
   pub memory : runOf (live (Read side 8 b) a c) m (2 ∷ 3 ∷ []) .memory ≡ m
@@ -63,7 +63,8 @@ pub record LowGoesOn : Type 0 where
   pub fromRegisters : (b a : ℕ) (c : chip.Companion) (m : List ℕ)
       → GoesOn Companion b a c m (getD (registerList (c .registers)) (c .address) 0)
 
--- "The address steps on at the eighth": the memory's from 1FFFh to 0000h, the companion's from 0Eh to 00h, each by itself.
+-- "The address steps on at the eighth": the memory's from 1FFFh to 0000h, the companion's from 0Eh to 00h, each by
+-- itself.
 pub record StepsOn : Type 0 where
   pub fromMemory : (b a : ℕ) (c : chip.Companion) (m : List ℕ) (d : Bool)
       → runOf (live (Read Memory 7 b) a c) m (cond d 3 2 ∷ []) .state ≡ live (Read Memory 8 b) ((a + 1) % 8192) c

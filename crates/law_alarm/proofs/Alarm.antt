@@ -1,14 +1,14 @@
 -- SPDX-License-Identifier: Apache-2.0
--- One tick. With no supply nothing happens; with one, by OSCEN, the companion is as it was or has counted. Where it counted,
--- 00h is written of its parts, so AF and CF can be read off; the year carries exactly where it goes from 99 to 00.
+-- What a tick raises. With no supply nothing happens; with one, by OSCEN, the companion is as it was or has counted. Where
+-- it counted, AF and CF are read off 00h; the year carries exactly where it goes from 99 to 00.
 -- Assumes nothing.
-use Prim.Native.Nat.{ℕ, _+_, _*_, _/_, _%_}
+use Prim.Native.Nat.{ℕ}
 use mathlib.Core.Path.{_≡_, refl, sym, ap, _∙_}
-use mathlib.Core.Bool.{Bool, true, false, cond, not, _&&_, _||_, true≢false, false≢true}
+use mathlib.Core.Bool.{Bool, true, false, cond, not, _&&_, _||_}
 use mathlib.Core.List.{List}
 use native.Mathlib.Omega.{arith}
 use lib.Dec.{eqb}
-use borrow.Author.Tests.{eq-eqb, ne-eqb, eqb-true, eqb-false}
+use borrow.Author.Tests.{eqb-true, eqb-false}
 use Rattle.wire.specs.declared.Phase.{Phase}
 use Rattle.calendar.specs.Field.{value, stepOf}
 use Rattle.calendar.specs.Next.{isValid, nextOf, tickIf, monthOf}
@@ -19,54 +19,14 @@ use Rattle.calendar.proofs.Field.{InField}
 use Rattle.calendar.proofs.Valid.{valid-facts}
 use Rattle.bus.specs.declared.Power.{Power}
 use Rattle.bus.specs.declared.Power.the-variants.{On, Backup, Off}
-use Rattle.registers.specs.Control.{flagged}
 use Rattle.companion.specs.Tick.{rung, countedOf, tickOf}
 use Rattle.companion.specs.declared.Companion.{Companion}
 use Rattle.device.specs.Event.{happening, eventOn}
 use Rattle.device.specs.declared.State.{State}
 use Rattle.lists.specs.Run.{runOf}
-use Rattle.law_alarm.specs.Tick.{bit, supplied, counts, after, with00h, agreed, AlarmRises, CenturyRises, EnableFree}
-use Rattle.law_alarm.specs.Tick.{Uncounted, UncountedUnchanged, Counted, EveryCounted, InvalidRaisesNothing}
-
--- 00h written of its parts: each can be read off
-flagged-af : (k : ℕ) (a b : Bool) → bit 64 (flagged k a b) ≡ a
-flagged-af k true true = eq-eqb (flagged k true true / 64 % 2) 1 (omega arith)
-flagged-af k true false = eq-eqb (flagged k true false / 64 % 2) 1 (omega arith)
-flagged-af k false true = ne-eqb (flagged k false true / 64 % 2) 1 (λ e. omega arith)
-flagged-af k false false = ne-eqb (flagged k false false / 64 % 2) 1 (λ e. omega arith)
-
-flagged-cf : (k : ℕ) (a b : Bool) → bit 32 (flagged k a b) ≡ b
-flagged-cf k true true = eq-eqb (flagged k true true / 32 % 2) 1 (omega arith)
-flagged-cf k true false = ne-eqb (flagged k true false / 32 % 2) 1 (λ e. omega arith)
-flagged-cf k false true = eq-eqb (flagged k false true / 32 % 2) 1 (omega arith)
-flagged-cf k false false = ne-eqb (flagged k false false / 32 % 2) 1 (λ e. omega arith)
-
-flagged-rest : (k : ℕ) (a b : Bool) → (flagged k a b / 128 ≡ k / 128) × (flagged k a b % 32 ≡ k % 32)
-flagged-rest k true true = omega arith
-flagged-rest k true false = omega arith
-flagged-rest k false true = omega arith
-flagged-rest k false false = omega arith
-
--- a byte as the sum of its parts; with its own AF and CF it is itself
-in-parts : (k : ℕ) → k / 128 * 128 + k / 64 % 2 * 64 + k / 32 % 2 * 32 + k % 32 ≡ k
-in-parts k =
-    let a : k / 64 ≡ k / 128 * 2 + k / 64 % 2 = omega arith in
-    let b : k / 32 ≡ k / 64 * 2 + k / 32 % 2 = omega arith in
-    let c : k ≡ k / 32 * 32 + k % 32 = omega arith in
-    omega (arith, a, b, c)
-
-af-weight : (k : ℕ) (t : Bool) → bit 64 k ≡ t → cond t 64 0 ≡ k / 64 % 2 * 64
-af-weight k true h = let p = eqb-true (k / 64 % 2) 1 h in omega arith
-af-weight k false h = let p = eqb-false (k / 64 % 2) 1 h in omega arith
-
-cf-weight : (k : ℕ) (t : Bool) → bit 32 k ≡ t → cond t 32 0 ≡ k / 32 % 2 * 32
-cf-weight k true h = let p = eqb-true (k / 32 % 2) 1 h in omega arith
-cf-weight k false h = let p = eqb-false (k / 32 % 2) 1 h in omega arith
-
-flagged-self : (k : ℕ) → flagged k (bit 64 k) (bit 32 k) ≡ k
-flagged-self k =
-    ap (λ (x : ℕ). k / 128 * 128 + x + cond (bit 32 k) 32 0 + k % 32) (af-weight k (bit 64 k) refl)
-    ∙ (ap (λ (x : ℕ). k / 128 * 128 + k / 64 % 2 * 64 + x + k % 32) (cf-weight k (bit 32 k) refl) ∙ in-parts k)
+use Rattle.law_alarm.specs.Second.{bit, counts, after, with00h}
+use Rattle.law_alarm.specs.Alarm.{agreed, AlarmRises, CenturyRises, EnableFree, InvalidRaisesNothing}
+use Rattle.law_alarm.proofs.Flags.{flagged-af, flagged-cf, flagged-self}
 
 or-false : (b : Bool) → b || false ≡ b
 or-false true = refl
@@ -154,59 +114,6 @@ module _ (q : Phase) (a : ℕ) (c : Companion) (m : List ℕ) where
   raises-nothing Backup h = counted-invalid c (bit 128 (c .registers .trim)) h
   raises-nothing Off h = (refl, refl)
 
-  kept : let k = c .registers .control in
-      let told = flagged k (bit 64 k || rung c) (bit 32 k || nextOf (c .core) .century) in
-      (told / 128 ≡ k / 128) × (told % 32 ≡ k % 32)
-  kept =
-      flagged-rest (c .registers .control) (bit 64 (c .registers .control) || rung c)
-      (bit 32 (c .registers .control) || nextOf (c .core) .century)
-
-  unchanged-by : (p : Power) (t : Bool) → bit 128 (c .registers .trim) ≡ t → (supplied p && not t) ≡ false
-      → Uncounted (at p) m
-  unfolding runOf happening eventOn tickOf
-  unchanged-by On true e h = record { state = rw e; memory = refl }
-  unchanged-by On false e h = absurd (true≢false h)
-  unchanged-by Backup true e h = record { state = rw e; memory = refl }
-  unchanged-by Backup false e h = absurd (true≢false h)
-  unchanged-by Off t e h = record { state = refl; memory = refl }
-
-  counted-all : (p : Power) (t : Bool) → bit 128 (c .registers .trim) ≡ t → (supplied p && not t) ≡ true
-      → Counted (at p) m
-  unfolding runOf happening eventOn tickOf
-  counted-all On true e h = absurd (false≢true h)
-  counted-all On false e h =
-      record {
-        lb = rw e (kept .0);
-        porToR = rw e (kept .1);
-        core = rw e;
-        time = rw e;
-        trim = rw e;
-        alarm = rw e;
-        setup = rw e;
-        pointer = rw e;
-        power = refl;
-        phase = refl;
-        address = refl;
-        memory = refl;
-      }
-  counted-all Backup true e h = absurd (false≢true h)
-  counted-all Backup false e h =
-      record {
-        lb = rw e (kept .0);
-        porToR = rw e (kept .1);
-        core = rw e;
-        time = rw e;
-        trim = rw e;
-        alarm = rw e;
-        setup = rw e;
-        pointer = rw e;
-        power = refl;
-        phase = refl;
-        address = refl;
-        memory = refl;
-      }
-  counted-all Off t e h = absurd (false≢true h)
-
 -- two bytes at 00h with the same AF
 module _ (s : State) (m : List ℕ) (x y : ℕ) (h : bit 64 x ≡ bit 64 y) where
   abbrev AfOf : (ℕ → Companion) → Type 0
@@ -228,10 +135,6 @@ module _ (s : State) (m : List ℕ) (x y : ℕ) (h : bit 64 x ≡ bit 64 y) wher
 pub enable-free : EnableFree
 enable-free s m x y h = free-by s m x y h (s .power)
 
-pub every-counted : EveryCounted
-every-counted s m h =
-    counted-all (s .phase) (s .address) (s .companion) m (s .power) (bit 128 (s .companion .registers .trim)) refl h
-
 pub alarm-rises : AlarmRises
 alarm-rises s m = rises (s .phase) (s .address) (s .companion) m (s .power)
 
@@ -240,7 +143,3 @@ century-rises s m = turns-century (s .phase) (s .address) (s .companion) m (s .p
 
 pub invalid-raises-nothing : InvalidRaisesNothing
 invalid-raises-nothing s m h = raises-nothing (s .phase) (s .address) (s .companion) m (s .power) h
-
-pub uncounted-unchanged : UncountedUnchanged
-uncounted-unchanged s m h =
-    unchanged-by (s .phase) (s .address) (s .companion) m (s .power) (bit 128 (s .companion .registers .trim)) refl h
