@@ -1,0 +1,5 @@
+-- SPDX-License-Identifier: Apache-2.0
+pub mod Ticks
+pub mod Flags
+pub mod Clocking
+pub mod Fixed
