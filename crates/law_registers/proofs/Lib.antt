@@ -6,3 +6,5 @@ pub mod Fixed
 pub mod Masks
 pub mod Storing
 pub mod Written
+pub mod Control
+pub mod Held

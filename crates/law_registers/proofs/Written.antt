@@ -26,7 +26,7 @@ use Rattle.law_registers.proofs.Masks.{stored-masked, trim-masked}
 use Rattle.law_registers.proofs.Storing.{byte-stored}
 
 -- a byte that is not refused is written, and the address steps on
-stored-is : (c : Desk) (b : ℕ) → loadsBadDate c b ≡ false
+pub stored-is : (c : Desk) (b : ℕ) → loadsBadDate c b ≡ false
     → storeOf c b ≡ record { companion = steppedOf (writtenOf c b); acknowledged = true }
 unfolding storeOf
 stored-is c b e = rw e
@@ -36,7 +36,7 @@ past-control : (c : Desk) (b : ℕ) → 1 ≤ c .address → loadsBadDate c b �
 past-control c b h = rw (ne-eqb (c .address) 0 (λ e. omega arith))
 
 -- from a state on the bus to every state
-of-writes : (X : State → List ℕ → ℕ → Bool → Type 0)
+pub of-writes : (X : State → List ℕ → ℕ → Bool → Type 0)
     → ((a : ℕ) (m : List ℕ) (c : Desk) (b : ℕ) (d : Bool) → b < 256 → X (onBus (Write Companion 0 0) a c) m b d) → OfWrites X
 of-writes X h s m b d on e l = subst (λ (z : State). X z m b d) (sym (on-bus s on e)) (h (s .address) m (s .companion) b d l)
 

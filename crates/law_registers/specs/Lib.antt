@@ -2,3 +2,4 @@
 pub mod Ticks
 pub mod Fixed
 pub mod Written
+pub mod Held
