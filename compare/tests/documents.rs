@@ -96,6 +96,7 @@ fn is_there(name: &str, named_in: &Path) -> bool {
     leads_somewhere(name, named_in)
         || match parts[..] {
             ["second", family] => is_family(family),
+            ["twins", label] => top().join("twins").join(format!("{label}.twin")).is_file(),
             ["edits", owner, label] => is_edit(top().join("edits").join(owner), label),
             [owner, "must-fail", label] => is_edit(crates.join(owner).join("must-fail"), label),
             [owner, "src", place] => is_code(&crates.join(owner).join("src"), place),
@@ -239,6 +240,7 @@ fn a_name_that_is_gone_is_noticed() {
         "wire/src/bits.pus",
         "wire/must-fail/none",
         "edits/wire/none",
+        "twins/none",
         "second/none",
         "lists/proofs/Runs.none",
         "docs/NONE.md",
