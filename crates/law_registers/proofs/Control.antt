@@ -24,7 +24,7 @@ use Rattle.law_registers.proofs.Storing.{byte-stored, byte-left}
 use Rattle.law_registers.proofs.Written.{of-writes, stored-is}
 
 -- a good date, or W does not fall
-not-refused : (w b v : Bool) → (w ≡ true → b ≡ false → v ≡ true) → ((w && not b) && not v) ≡ false
+pub not-refused : (w b v : Bool) → (w ≡ true → b ≡ false → v ≡ true) → ((w && not b) && not v) ≡ false
 not-refused false b v h = refl
 not-refused true true v h = refl
 not-refused true false true h = refl

@@ -8,3 +8,4 @@ pub mod Storing
 pub mod Written
 pub mod Control
 pub mod Held
+pub mod Setting

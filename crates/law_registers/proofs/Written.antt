@@ -32,7 +32,7 @@ unfolding storeOf
 stored-is c b e = rw e
 
 -- past 00h no byte is refused
-past-control : (c : Desk) (b : ℕ) → 1 ≤ c .address → loadsBadDate c b ≡ false
+pub past-control : (c : Desk) (b : ℕ) → 1 ≤ c .address → loadsBadDate c b ≡ false
 past-control c b h = rw (ne-eqb (c .address) 0 (λ e. omega arith))
 
 -- from a state on the bus to every state

@@ -3,3 +3,4 @@ pub mod Ticks
 pub mod Fixed
 pub mod Written
 pub mod Held
+pub mod Setting
