@@ -32,10 +32,10 @@
 
 use std::fmt;
 
-use crate::archive;
 use crate::device::Device;
 use crate::event;
 use crate::{MEMORY_BYTES, UNANSWERED};
+use fm3130_sys as archive;
 
 /// The bytes of the longest capture, 60 KiB.
 pub const MOST_BYTES: usize = 61_440;
@@ -117,10 +117,10 @@ impl fmt::Display for Verdict {
 /// assert_eq!(judge(&[0; 61_441]), Verdict::TooLong);
 /// ```
 pub fn judge(file: &[u8]) -> Verdict {
-    let (number, place) = archive::judge(file);
+    let judgement = archive::fm3130_judge(file);
     // Every place is a count of bytes of the file or an entry's number, so it fits.
-    let place = place as usize;
-    match number {
+    let place = judgement.place as usize;
+    match judgement.number {
         0 => Verdict::Agree { count: place },
         1 => differs(file, place),
         2 => Verdict::Faulty { entry: place },

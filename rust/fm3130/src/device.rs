@@ -4,7 +4,6 @@
 use std::fmt;
 
 use crate::answer::{Answer, Pin};
-use crate::archive;
 use crate::calendar::Calendar;
 use crate::change::Change;
 use crate::entries;
@@ -37,7 +36,7 @@ impl Device {
     pub fn fresh() -> Device {
         let mut image = [0; IMAGE_BYTES];
         // 64 bytes are not refused. Were they, zeros would stay, which every entry refuses by number 2.
-        let image = archive::fresh(&mut image).map_or([0; IMAGE_BYTES], |()| image);
+        let image = entries::fresh(&mut image).map_or([0; IMAGE_BYTES], |()| image);
         Device {
             image,
             memory: Box::new([0; MEMORY_BYTES]),
@@ -107,7 +106,7 @@ impl Device {
     /// assert_eq!(device.run_into(&[event::TICK; 4], &mut answers), Err(Refusal::ShortAnswers));
     /// ```
     pub fn run_into(&mut self, events: &[u8], answers: &mut [u8]) -> Result<usize, Refusal> {
-        archive::run(&mut self.image, &mut self.memory[..], events, answers)
+        entries::run(&mut self.image, &mut self.memory[..], events, answers)
     }
 
     /// Does one event; returns its answer.
@@ -175,7 +174,7 @@ impl Device {
     /// # Ok::<(), fm3130::Refusal>(())
     /// ```
     pub fn next_line(&self) -> Result<NextLine, Refusal> {
-        archive::next_line(&self.image, &self.memory[..])
+        entries::next_line(&self.image, &self.memory[..])
     }
 
     /// Puts right registers 02h to 08h and, by itself but by the same rule, the core: each field that
@@ -202,7 +201,7 @@ impl Device {
     /// ```
     pub fn mend(&mut self) -> Result<Vec<Change>, Refusal> {
         let mut list = [0; CHANGES_ROOM];
-        let count = archive::mend(&mut self.image, &mut list)?;
+        let count = entries::mend(&mut self.image, &mut list)?;
         Ok(Change::all_of(&list, count))
     }
 
@@ -231,7 +230,7 @@ impl Device {
     /// # Ok::<(), Refusal>(())
     /// ```
     pub fn catch_up(&mut self, ticks: u64) -> Result<(), Refusal> {
-        archive::catch_up(&mut self.image, ticks)
+        entries::catch_up(&mut self.image, ticks)
     }
 
     /// Writes bytes to the memory over the bus, from an address on and over 1FFFh to 0000h: one whole

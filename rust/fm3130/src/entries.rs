@@ -1,11 +1,11 @@
 // SPDX-License-Identifier: Apache-2.0
 //! The archive's entries on slices of any length.
 
-use crate::archive;
 use crate::lamps::Report;
 use crate::line::NextLine;
 use crate::refusal::Refusal;
 use crate::{selector, REGISTER_COUNT};
+use fm3130_sys as archive;
 
 /// Runs a list of events on a state image and a memory; the answers go to the first bytes of
 /// `answers`, the others stay. Returns the number of events.
@@ -34,7 +34,9 @@ pub fn run(
     events: &[u8],
     answers: &mut [u8],
 ) -> Result<usize, Refusal> {
-    archive::run(image, memory, events, answers)
+    let ran = archive::fm3130_run(image, memory, events, answers);
+    // The count is the number of events, so it is a length of a slice and fits.
+    Refusal::outcome_of(ran.number).map(|()| ran.count as usize)
 }
 
 /// Runs a list of events as [`run`] does, with the proving record's 20 bytes stepped along; returns the
@@ -66,7 +68,9 @@ pub fn run_with_lamps(
     answers: &mut [u8],
     record: &mut [u8],
 ) -> Result<Report, Refusal> {
-    archive::lamps(image, memory, events, answers, record).map(Report)
+    let shown = archive::fm3130_lamps(image, memory, events, answers, record);
+    // The report is proved to be a byte: eight bits.
+    Refusal::outcome_of(shown.number).map(|()| Report(shown.report as u8))
 }
 
 /// Does one event on a state image and a memory; its answer byte and the number of the field of the
@@ -97,7 +101,8 @@ pub fn step(
     event: u8,
     told: &mut [u8],
 ) -> Result<(), Refusal> {
-    archive::step(image, memory, u64::from(event), told)
+    let event = u64::from(event);
+    Refusal::outcome_of(archive::fm3130_step(image, memory, event, told))
 }
 
 /// What the device of an image will do to the line of the next Clock, and of the one after it. Nothing
@@ -117,7 +122,7 @@ pub fn step(
 /// # Ok::<(), Refusal>(())
 /// ```
 pub fn next_line(image: &[u8], memory: &[u8]) -> Result<NextLine, Refusal> {
-    archive::next_line(image, memory)
+    NextLine::of_word(archive::fm3130_line(image, memory))
 }
 
 /// Does many ticks on a state image in one call: the image is left as [`run`] leaves it on a list of
@@ -141,7 +146,7 @@ pub fn next_line(image: &[u8], memory: &[u8]) -> Result<NextLine, Refusal> {
 /// # Ok::<(), Refusal>(())
 /// ```
 pub fn catch_up(image: &mut [u8], ticks: u64) -> Result<(), Refusal> {
-    archive::catch_up(image, ticks)
+    Refusal::outcome_of(archive::fm3130_catch_up(image, ticks))
 }
 
 /// A master asks for the bus. The bus byte is the number of the master that holds it, or 0:
@@ -162,7 +167,7 @@ pub fn catch_up(image: &mut [u8], ticks: u64) -> Result<(), Refusal> {
 /// assert_eq!(fm3130::ask(&mut bus, 3), Err(Refusal::Image));
 /// ```
 pub fn ask(bus: &mut [u8], master: u64) -> Result<(), Refusal> {
-    archive::ask(bus, master)
+    Refusal::outcome_of(archive::fm3130_ask(bus, master))
 }
 
 /// A master runs a list of events, as [`run`] does; the bus byte becomes 0 if the events free the
@@ -193,7 +198,9 @@ pub fn call(
     events: &[u8],
     answers: &mut [u8],
 ) -> Result<usize, Refusal> {
-    archive::call(bus, master, image, memory, events, answers)
+    let ran = archive::fm3130_call(bus, master, image, memory, events, answers);
+    // The count is the number of events, so it is a length of a slice and fits.
+    Refusal::outcome_of(ran.number).map(|()| ran.count as usize)
 }
 
 /// Writes the image of the fresh state: power on, no transfer, both addresses 0.
@@ -209,7 +216,7 @@ pub fn call(
 /// assert_eq!(fm3130::fresh(&mut image[1..]), Err(fm3130::Refusal::Image));
 /// ```
 pub fn fresh(image: &mut [u8]) -> Result<(), Refusal> {
-    archive::fresh(image)
+    Refusal::outcome_of(archive::fm3130_fresh(image))
 }
 
 /// Puts a state image right that holds an impossible date or time: registers 02h to 08h and, by
@@ -238,7 +245,9 @@ pub fn fresh(image: &mut [u8]) -> Result<(), Refusal> {
 /// # Ok::<(), Refusal>(())
 /// ```
 pub fn mend(image: &mut [u8], changes: &mut [u8]) -> Result<usize, Refusal> {
-    archive::mend(image, changes)
+    let mended = archive::fm3130_mend(image, changes);
+    // The count is at most 7, so it fits.
+    Refusal::outcome_of(mended.number).map(|()| mended.count as usize)
 }
 
 /// A part of the memory or of the registers, never a copy. Of the image only the length is tested.
@@ -265,7 +274,8 @@ pub fn view<'part>(
     start: u64,
     length: u64,
 ) -> Result<&'part [u8], Refusal> {
-    archive::view_number(image, memory, selector, start, length)?;
+    let number = archive::fm3130_view_number(image, memory, selector, start, length);
+    Refusal::outcome_of(number)?;
     let chosen = match selector {
         selector::MEMORY => memory,
         _ => image.get(..REGISTER_COUNT).ok_or(Refusal::Image)?,

@@ -49,7 +49,6 @@
 #![forbid(unsafe_code)]
 
 mod answer;
-mod archive;
 mod calendar;
 pub mod capture;
 mod change;

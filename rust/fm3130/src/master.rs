@@ -23,7 +23,7 @@
 use std::error::Error;
 use std::fmt;
 
-use crate::archive;
+use fm3130_sys as archive;
 
 /// The most data bytes of one transaction.
 pub const MOST: usize = 256;
@@ -91,7 +91,7 @@ impl Refusal {
     ///
     /// The archive is proved to give no number above 5; should one come all the same, it counts as
     /// the last refusal rather than as a reason to panic.
-    pub(crate) fn outcome_of(number: u64) -> Result<(), Refusal> {
+    fn outcome_of(number: u64) -> Result<(), Refusal> {
         Err(match number {
             0 => return Ok(()),
             1 => Refusal::TooMany,
@@ -151,6 +151,11 @@ impl fmt::Display for TransactionRefusal {
 
 impl Error for TransactionRefusal {}
 
+/// How many bytes a function of the archive filled: at most the length of the buffer, so it fits.
+fn filled(filled: archive::Filled) -> Result<usize, Refusal> {
+    Refusal::outcome_of(filled.number).map(|()| filled.count as usize)
+}
+
 /// The events of a whole write of bytes from an address on; they go to the first bytes of `events`,
 /// the others stay. Returns their number. A write of no bytes sets the address.
 ///
@@ -167,7 +172,7 @@ impl Error for TransactionRefusal {}
 /// assert_eq!(master::write_events(0x2000, &[0x5A], &mut events), Err(Refusal::WrongAddress));
 /// ```
 pub fn write_events(address: u64, bytes: &[u8], events: &mut [u8]) -> Result<usize, Refusal> {
-    archive::write_events(address, bytes, events)
+    filled(archive::fm3130_write_events(address, bytes, events))
 }
 
 /// The events of a whole read of so many bytes from an address on; they go to the first bytes of
@@ -188,7 +193,7 @@ pub fn write_events(address: u64, bytes: &[u8], events: &mut [u8]) -> Result<usi
 /// assert_eq!(master::read_events(0x1234, 0, &mut events), Err(Refusal::ReadOfNone));
 /// ```
 pub fn read_events(address: u64, count: u64, events: &mut [u8]) -> Result<usize, Refusal> {
-    archive::read_events(address, count, events)
+    filled(archive::fm3130_read_events(address, count, events))
 }
 
 /// What the answers to a write of so many data bytes tell: a flag for each, 1 if it was acknowledged,
@@ -207,7 +212,7 @@ pub fn read_events(address: u64, count: u64, events: &mut [u8]) -> Result<usize,
 /// assert_eq!(master::write_told(1, &[0; 37], &mut flags), Err(Refusal::WrongAnswers));
 /// ```
 pub fn write_told(count: u64, answers: &[u8], flags: &mut [u8]) -> Result<usize, Refusal> {
-    archive::write_told(count, answers, flags)
+    filled(archive::fm3130_write_told(count, answers, flags))
 }
 
 /// What the answers to a read of so many data bytes tell: the bytes, or none if a slave or address
@@ -228,5 +233,5 @@ pub fn write_told(count: u64, answers: &[u8], flags: &mut [u8]) -> Result<usize,
 /// assert_eq!(master::read_told(1, &[1; 48], &mut bytes), Ok(0)); // nobody acknowledged
 /// ```
 pub fn read_told(count: u64, answers: &[u8], bytes: &mut [u8]) -> Result<usize, Refusal> {
-    archive::read_told(count, answers, bytes)
+    filled(archive::fm3130_read_told(count, answers, bytes))
 }

@@ -19,7 +19,7 @@
 
 use std::fmt;
 
-use crate::archive;
+use fm3130_sys as archive;
 
 /// The cycles of a crystal without an error, over a 64-minute cycle.
 pub const CYCLES: i32 = 125_829_120;
@@ -37,6 +37,16 @@ pub enum Sign {
     Plus,
     /// Takes 256 cycles away a step.
     Minus,
+}
+
+impl Sign {
+    /// The number that the archive takes.
+    fn number(self) -> u64 {
+        match self {
+            Sign::Minus => 0,
+            Sign::Plus => 1,
+        }
+    }
 }
 
 /// A sign, and a code that says how many steps. Any code can be judged; those above 31 are refused.
@@ -140,7 +150,7 @@ impl Verdict {
     ///
     /// The archive is proved to give no other number for a sign of 0 or 1; should one come all the
     /// same, it counts as the last refusal rather than as a reason to panic.
-    pub(crate) fn of_number(number: u64) -> Verdict {
+    fn of_number(number: u64) -> Verdict {
         match number {
             0 => Verdict::Accepted,
             1 => Verdict::NotNearest,
@@ -169,7 +179,8 @@ impl fmt::Display for Verdict {
 /// }
 /// ```
 pub fn check(error: i32, setting: Setting) -> Verdict {
-    Verdict::of_number(archive::trim_check(error, setting))
+    let (sign, code) = (setting.sign.number(), setting.code);
+    Verdict::of_number(archive::fm3130_trim_check(error, sign, code))
 }
 
 /// What a setting leaves of an error, or nothing where [`check`] refuses one of the two.
@@ -182,7 +193,9 @@ pub fn check(error: i32, setting: Setting) -> Verdict {
 /// assert_eq!(residue(128, Setting { code: 32, ..minus_1 }), None);
 /// ```
 pub fn residue(error: i32, setting: Setting) -> Option<i32> {
-    (!check(error, setting).is_refusal()).then(|| archive::trim_residue(error, setting))
+    let (sign, code) = (setting.sign.number(), setting.code);
+    let is_judged = !check(error, setting).is_refusal();
+    is_judged.then(|| archive::fm3130_trim_residue(error, sign, code))
 }
 
 /// Proposes a setting, which [`check`] always accepts; nothing where the error is out of range.
@@ -194,7 +207,7 @@ pub fn residue(error: i32, setting: Setting) -> Option<i32> {
 /// assert_eq!(propose(20_001), None);
 /// ```
 pub fn propose(error: i32) -> Option<Setting> {
-    let number = archive::trim_propose(error);
+    let number = archive::fm3130_trim_propose(error);
     let sign = match number / (LAST_CODE + 1) {
         0 => Sign::Minus,
         1 => Sign::Plus,

@@ -4,7 +4,8 @@
 use super::refusal::Refusal;
 use super::size::Size;
 use super::REGISTER_COUNT;
-use crate::{archive, selector, IMAGE_BYTES};
+use crate::{selector, IMAGE_BYTES};
+use fm3130_sys as archive;
 
 /// Writes the image of the fresh state, which is the same for both sizes: power on, no transfer, the
 /// memory's address 0000h, the companion's 09h, POR and LB 1.
@@ -22,7 +23,7 @@ use crate::{archive, selector, IMAGE_BYTES};
 /// assert_eq!(family::fresh(&mut image[1..]), Err(family::Refusal::Image));
 /// ```
 pub fn fresh(image: &mut [u8]) -> Result<(), Refusal> {
-    archive::family_fresh(image)
+    Refusal::outcome_of(archive::fm31_fresh(image))
 }
 
 /// The image of the fresh state.
@@ -60,7 +61,10 @@ pub fn run(
     events: &[u8],
     answers: &mut [u8],
 ) -> Result<(), Refusal> {
-    archive::family_run(size, image, memory, events, answers)
+    Refusal::outcome_of(match size {
+        Size::Kb64 => archive::fm3164_run(image, memory, events, answers),
+        Size::Kb256 => archive::fm31256_run(image, memory, events, answers),
+    })
 }
 
 /// Does one event on a state image and a memory of a size; its answer goes to the first byte of
@@ -91,7 +95,11 @@ pub fn step(
     event: u8,
     told: &mut [u8],
 ) -> Result<(), Refusal> {
-    archive::family_step(size, image, memory, u64::from(event), told)
+    let event = u64::from(event);
+    Refusal::outcome_of(match size {
+        Size::Kb64 => archive::fm3164_step(image, memory, event, told),
+        Size::Kb256 => archive::fm31256_step(image, memory, event, told),
+    })
 }
 
 /// A part of the memory or of the 16 registers, never a copy; see [`crate::selector`]. Register 09h is
@@ -124,7 +132,10 @@ pub fn view<'part>(
     start: u64,
     length: u64,
 ) -> Result<&'part [u8], Refusal> {
-    archive::family_view_number(size, image, memory, selector, start, length)?;
+    Refusal::outcome_of(match size {
+        Size::Kb64 => archive::fm3164_view_number(image, memory, selector, start, length),
+        Size::Kb256 => archive::fm31256_view_number(image, memory, selector, start, length),
+    })?;
     let chosen = match selector {
         selector::MEMORY => memory,
         _ => image.get(..REGISTER_COUNT).ok_or(Refusal::Image)?,

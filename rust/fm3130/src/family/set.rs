@@ -9,7 +9,8 @@ use super::size::{ChosenSize, Size};
 use super::state::{Counts, State};
 use super::transaction::{self, COMPANION, MEMORY};
 use super::Part;
-use crate::{archive, IMAGE_BYTES, UNANSWERED};
+use crate::{IMAGE_BYTES, UNANSWERED};
+use fm3130_sys as archive;
 
 /// The most devices of a set.
 pub const MOST_MEMBERS: usize = 4;
@@ -218,8 +219,10 @@ impl Set {
         for (memory, member) in memories.iter_mut().zip(&set.members) {
             *memory = &member.memory;
         }
-        archive::set_check(&set.plan(), &set.images(), memories)?;
-        Ok(set)
+        let [one, two, three, four] = memories;
+        let (plan, images) = (set.plan(), set.images());
+        let number = archive::fm31_set_check(&plan, &images, one, two, three, four);
+        SetRefusal::outcome_of(number).map(|()| set)
     }
 
     /// Runs a list of events; returns the line for each: 0 low, 1 high.
@@ -254,7 +257,17 @@ impl Set {
         for (memory, member) in memories.iter_mut().zip(&mut self.members) {
             *memory = &mut member.memory;
         }
-        archive::set_run(&plan, &mut images, memories, events, answers)?;
+        let [one, two, three, four] = memories;
+        SetRefusal::outcome_of(archive::fm31_set_run(
+            &plan,
+            &mut images,
+            one,
+            two,
+            three,
+            four,
+            events,
+            answers,
+        ))?;
         for (member, image) in self
             .members
             .iter_mut()
