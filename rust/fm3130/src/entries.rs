@@ -1,9 +1,9 @@
 // SPDX-License-Identifier: Apache-2.0
 //! The archive's entries on slices of any length.
 
-use crate::lamps::Report;
 use crate::line::NextLine;
 use crate::refusal::Refusal;
+use crate::report::Report;
 use crate::{selector, REGISTER_COUNT};
 use fm3130_sys as archive;
 
