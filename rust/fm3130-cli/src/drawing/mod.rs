@@ -3,10 +3,11 @@
 //!
 //! [`Drawing`] makes cells of what happens and puts them into rows as wide as a page. A [`Row`]
 //! draws cells, and lamps below them where a run keeps the proving record; [`Wires`] are the levels that go
-//! on from cell to cell and from row to row; `page` is all that is not a row.
+//! on from cell to cell and from row to row; `page` is all that is not a row; `style` is what both are drawn with.
 
-pub mod page;
+mod page;
 mod row;
+pub mod style;
 mod wires;
 
 use fm3130::family::Select;
@@ -168,7 +169,7 @@ fn box_of_ticks(report: &TickReport) -> Aside {
     Aside {
         name,
         words: report.after.core().map_or("no clock".to_string(), time),
-        color: page::TICK,
+        color: style::TICK,
     }
 }
 
@@ -177,7 +178,7 @@ fn box_of_edges(report: &EdgeReport) -> Aside {
     Aside {
         name: report.notation(),
         words: report.label(),
-        color: page::COUNT,
+        color: style::COUNT,
     }
 }
 
@@ -191,7 +192,7 @@ fn box_of_power(change: &PowerChange) -> Aside {
     Aside {
         name: name.to_string(),
         words: words.to_string(),
-        color: page::POWER,
+        color: style::POWER,
     }
 }
 

@@ -3,7 +3,7 @@
 
 use fm3130::{Pin, PinFunction, Report};
 
-use super::page::{self, color_of, fitted, text, FAINT, INK};
+use super::style::{self, color_of, fitted, text, FAINT, INK};
 use super::wires::{Puller, Wires};
 use crate::bus::{Beside, BusByte, BusClock, Direction};
 
@@ -12,7 +12,7 @@ const HEIGHT: f64 = 150.0;
 /// Where the wires begin.
 pub const LEFT: f64 = 52.0;
 /// Where the wires end at most.
-const RIGHT: f64 = page::WIDTH - 18.0;
+const RIGHT: f64 = style::WIDTH - 18.0;
 
 /// The width of a Start or a Stop.
 pub const EDGE: f64 = 30.0;
@@ -178,7 +178,7 @@ impl Row {
         self.clock_to(x + 25.0, false);
         self.boundary_at(x);
         let name = if is_repeated { "Sr" } else { "S" };
-        self.boxed(EDGE, page::EDGE, name, false);
+        self.boxed(EDGE, style::EDGE, name, false);
         self.x += EDGE;
     }
 
@@ -190,7 +190,7 @@ impl Row {
         self.clock_to(x + 10.0, true);
         self.data_to(x + 17.0, Puller::Nobody);
         self.boundary_at(x);
-        self.boxed(EDGE, page::EDGE, "P", false);
+        self.boxed(EDGE, style::EDGE, "P", false);
         self.x += EDGE;
     }
 
@@ -224,11 +224,11 @@ impl Row {
 
     /// The value in the sender's colour, and the acknowledge in its giver's.
     fn boxes_of_byte(&mut self, byte: &BusByte) {
-        let by_device = page::sent_by(byte.device);
+        let by_device = style::sent_by(byte.device);
         let (sender, taker) = match byte.direction {
-            Direction::Write => (page::SENT_BY_MASTER, by_device),
-            Direction::Read => (by_device, page::SENT_BY_MASTER),
-            Direction::Unheard => (page::UNHEARD, page::UNHEARD),
+            Direction::Write => (style::SENT_BY_MASTER, by_device),
+            Direction::Read => (by_device, style::SENT_BY_MASTER),
+            Direction::Unheard => (style::UNHEARD, style::UNHEARD),
         };
         let is_cut = byte.clocks.len() < 9;
         let is_part = byte.clocks.len() < 8;
@@ -245,7 +245,7 @@ impl Row {
         self.x += width - NINTH;
         match byte.is_acknowledged() {
             true => self.boxed(NINTH, taker, "ACK", false),
-            false => self.boxed(NINTH, page::NOT_ACKNOWLEDGED, "NACK", false),
+            false => self.boxed(NINTH, style::NOT_ACKNOWLEDGED, "NACK", false),
         }
         self.x = begin;
     }
@@ -332,8 +332,8 @@ impl Row {
             let y = LAMP + NEXT_LAMP * f64::from(lamp);
             let points = format!("M{:.1} {y}H{:.1}", self.lamps_from, self.x);
             let (color, width) = match report.is_lit(lamp) {
-                true => (page::LIT, 4.0),
-                false => (page::DARK, 1.0),
+                true => (style::LIT, 4.0),
+                false => (style::DARK, 1.0),
             };
             self.shapes.push_str(&path(&points, color, width));
         }

@@ -4,7 +4,7 @@
 use fm3130::masters::Master;
 
 use super::{letter, Played};
-use crate::drawing::page::{fitted, text, FAINT, INK, SENT_BY_DEVICE, SENT_BY_MASTER, UNHEARD};
+use crate::drawing::style::{fitted, text, FAINT, INK, SENT_BY_DEVICE, SENT_BY_MASTER, UNHEARD};
 use crate::output::say_aside;
 
 /// The width of a turn, and of the names before the first.
