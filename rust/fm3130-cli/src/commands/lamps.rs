@@ -6,7 +6,7 @@ use std::path::{Path, PathBuf};
 
 use fm3130::Lamps;
 
-use super::run::title_of;
+use super::playing::title_of;
 use crate::amount::{self, Amount};
 use crate::arguments::{wrong, Arguments, Options};
 use crate::bus::{self, Grouping, Listener, Outputs};
@@ -43,7 +43,7 @@ pub fn command(words: Vec<OsString>) -> Outcome {
 
 /// Refuses a drawing that would be written over the script.
 fn test_files(script: &Path, svg: Option<&Path>) -> Outcome {
-    let script = Some(script).filter(|path| *path != Path::new("-"));
+    let script = Some(script).filter(|path| !files::is_input(path));
     let named = [("SCRIPT", script), ("--svg", svg)];
     let named: Vec<NamedFile> = named
         .into_iter()

@@ -7,6 +7,7 @@ mod help;
 mod judge;
 mod lamps;
 mod mend;
+mod playing;
 mod run;
 mod run_set;
 mod share;

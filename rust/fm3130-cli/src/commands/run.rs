@@ -2,24 +2,23 @@
 //! `fm3130 run`: plays a script on a device.
 
 use std::ffi::OsString;
-use std::path::{Path, PathBuf};
+use std::path::PathBuf;
 
 use fm3130::capture::{self, Capture};
 use fm3130::Phase;
 
+use super::playing::{open_asked, open_source, test_amounts, test_files, told, Audience};
 use super::run_set;
-use crate::amount::{self, Amount};
+use crate::amount;
 use crate::arguments::{wrong, Arguments, Options};
-use crate::bus::{self, Grouping, Listener, Observer, Outputs, Recorded};
+use crate::bus::Recorded;
 use crate::chip::{Chip, Part};
 use crate::drawing::Drawing;
 use crate::failure::{Failure, Outcome};
-use crate::files::{self, Loaded, NamedFile, Replacement};
+use crate::files::{self, Replacement};
 use crate::output::Output;
 use crate::script;
-use crate::source::{FileSource, PlanSource, Source};
-use crate::transcript::Transcript;
-use crate::waveform::Waveform;
+use crate::source::{FileSource, Source};
 use crate::words;
 
 const OPTIONS: Options = Options {
@@ -36,17 +35,6 @@ const OPTIONS: Options = Options {
     alone: &["--quiet", "--next-line", amount::OPTION],
 };
 
-/// Options that name files, with the script first.
-const FILES: [&str; 7] = [
-    "--events",
-    "--image",
-    "--memory",
-    "--answers",
-    "--vcd",
-    "--svg",
-    "--capture",
-];
-
 /// Plays a script or an event file.
 pub fn command(words: Vec<OsString>) -> Outcome {
     let arguments = Arguments::sort(words, &OPTIONS)?;
@@ -58,7 +46,12 @@ pub fn command(words: Vec<OsString>) -> Outcome {
     let part = arguments.part()?;
     test_files(&arguments, script.as_deref(), &[])?;
     test_capture(&arguments, part)?;
-    let (mut source, title) = open_source(script, arguments.path("--events"), part)?;
+    let (mut source, title) = open_source(
+        script,
+        arguments.path("--events"),
+        |path| script::load(path, part),
+        |path| FileSource::open(path, part),
+    )?;
     test_amounts(&arguments, &*source)?;
     let is_quiet = arguments.has("--quiet");
     let mut output = Output::new();
@@ -116,70 +109,6 @@ fn too_long(total: u64) -> Failure {
     ))
 }
 
-/// Refuses a run that would write more than it was asked for, before anything is done.
-pub(super) fn test_amounts(arguments: &Arguments, source: &dyn Source) -> Outcome {
-    let tally = source.tally();
-    let name = |option| {
-        arguments
-            .path(option)
-            .map(|path| path.display().to_string())
-    };
-    let answers = name("--answers").map(|name| Amount::exactly(name, tally.events()));
-    let waveform = name("--vcd").map(|name| Amount::about(name, tally.waveform()));
-    let words =
-        (!arguments.has("--quiet")).then(|| Amount::about("standard output", tally.words()));
-    let amounts: Vec<Amount> = [answers, waveform, words].into_iter().flatten().collect();
-    amount::test(&amounts, arguments.has(amount::OPTION))
-}
-
-/// Refuses a command line in which two words name one file. Plans are files that no word names.
-pub(super) fn test_files(
-    arguments: &Arguments,
-    script: Option<&Path>,
-    plans: &[(&'static str, PathBuf)],
-) -> Outcome {
-    let paths: Vec<(&str, PathBuf)> = FILES
-        .into_iter()
-        .filter_map(|option| Some((option, arguments.path(option)?)))
-        .collect();
-    let mut named: Vec<NamedFile> = script
-        .into_iter()
-        .filter(|path| *path != Path::new("-"))
-        .map(|path| NamedFile {
-            option: "SCRIPT",
-            path,
-        })
-        .collect();
-    let all = paths.iter().chain(plans);
-    named.extend(all.map(|(option, path)| NamedFile { option, path }));
-    files::must_differ(&named)
-}
-
-/// The source of events and its name.
-fn open_source(
-    script: Option<PathBuf>,
-    events: Option<PathBuf>,
-    part: Part,
-) -> Outcome<(Box<dyn Source>, String)> {
-    match (script, events) {
-        (Some(path), None) => Ok((
-            Box::new(PlanSource::new(script::load(&path, part)?)),
-            title_of(&path),
-        )),
-        (None, Some(path)) => Ok((Box::new(FileSource::open(&path, part)?), title_of(&path))),
-        (Some(_), Some(_)) => Err(wrong("run takes a SCRIPT or --events, not both")),
-        (None, None) => Err(wrong("run needs a SCRIPT")),
-    }
-}
-
-/// A file's name without its folder, for the head of a drawing.
-pub(super) fn title_of(path: &Path) -> String {
-    match path.file_name() {
-        Some(name) if path != Path::new("-") => name.to_string_lossy().into_owned(),
-        _ => "standard input".to_string(),
-    }
-}
-
 /// The device that the files hold, or a fresh one where there are none.
 fn load_device(
     arguments: &Arguments,
@@ -201,19 +130,6 @@ fn load_device(
     Chip::from_parts(part, &image, &memory).map_err(|refusal| Failure::Refused(refusal.to_string()))
 }
 
-/// The bytes of a part; says so if no file gave them.
-pub(super) fn told(
-    loaded: Loaded,
-    path: &Path,
-    is_quiet: bool,
-    output: &mut Output,
-) -> Outcome<Vec<u8>> {
-    if loaded.is_fresh && !is_quiet {
-        output.line(&format!("{}: new, begins fresh", path.display()))?;
-    }
-    Ok(loaded.bytes)
-}
-
 /// A run that begins inside a transfer says so.
 fn say_where_it_begins(device: &Chip, output: &mut Output) -> Outcome {
     let state = device.state();
@@ -232,32 +148,15 @@ fn play_to(
     title: &str,
 ) -> Outcome {
     let state = device.state();
-    let prints = output.is_some();
-    let mut transcript = output.map(Transcript::new);
     let svg = targets.svg.as_mut();
-    let mut drawing = svg.map(|file| Drawing::new(file, title, &state, None));
-    let mut listeners: Vec<&mut dyn Listener> = Vec::new();
-    listeners.extend(transcript.as_mut().map(|one| one as &mut dyn Listener));
-    listeners.extend(drawing.as_mut().map(|one| one as &mut dyn Listener));
-    let is_heard = !listeners.is_empty();
-    let mut grouping = Grouping::new(listeners, &state, None);
-    let mut waveform = match targets.vcd.as_mut() {
-        Some(file) => Some(Waveform::begin(file, &state)?),
-        None => None,
-    };
-    let mut observers: Vec<&mut dyn Observer> = Vec::new();
-    if is_heard {
-        observers.push(&mut grouping);
-    }
-    observers.extend(waveform.as_mut().map(|one| one as &mut dyn Observer));
-    let mut outputs = Outputs {
-        observers,
-        prints,
+    let audience = Audience {
+        output,
+        drawing: svg.map(|file| Drawing::new(file, title, &state, None)),
+        vcd: targets.vcd.as_mut(),
         answers: targets.answers.as_mut(),
         recording: targets.capture.as_ref().map(|_| &mut targets.recorded),
-        lamps: None,
     };
-    bus::play(device, source, &mut outputs)
+    audience.see(device, &state, source)
 }
 
 /// The files that a run writes. All are opened before the run and put in place after it.
@@ -274,10 +173,7 @@ struct Targets {
 
 impl Targets {
     fn open(arguments: &Arguments) -> Outcome<Targets> {
-        let open = |option| {
-            let path = arguments.path(option);
-            path.map(|path| Replacement::open(&path)).transpose()
-        };
+        let open = |option| open_asked(arguments, option);
         Ok(Targets {
             image: open("--image")?,
             memory: open("--memory")?,

@@ -6,18 +6,15 @@ use std::path::{Path, PathBuf};
 use fm3130::family::{Member, Select, Set, Size};
 use fm3130::IMAGE_BYTES;
 
-use super::run::{test_amounts, test_files, title_of, told};
+use super::playing::{open_asked, open_source, test_amounts, test_files, told, Audience};
 use crate::arguments::{wrong, Arguments};
-use crate::bus::{self, Grouping, Listener, Observer, Outputs};
 use crate::chip::State;
 use crate::drawing::Drawing;
 use crate::failure::{Failure, Outcome};
 use crate::files::{self, Replacement};
 use crate::output::Output;
 use crate::script;
-use crate::source::{FileSource, PlanSource, Source};
-use crate::transcript::Transcript;
-use crate::waveform::Waveform;
+use crate::source::{FileSource, Source};
 use crate::words;
 
 /// Options that are for one device: with a file, and alone.
@@ -34,7 +31,13 @@ pub fn command(
     let is_quiet = arguments.has("--quiet");
     let mut output = Output::new();
     test_members(members)?;
-    let (mut source, title) = open_source(arguments, script, members)?;
+    let selects: Vec<Select> = members.iter().map(|(_, select)| *select).collect();
+    let (mut source, title) = open_source(
+        script,
+        arguments.path("--events"),
+        |path| script::load_for_set(path, &selects),
+        |path| FileSource::open_for_set(path, members.len()),
+    )?;
     test_amounts(arguments, &*source)?;
     let mut set = load_set(arguments, members, is_quiet, &mut output)?;
     let mut targets = Targets::open(arguments, title)?;
@@ -84,27 +87,6 @@ fn test_members(members: &[(Size, Select)]) -> Outcome {
     match Set::new(fresh(members)) {
         Ok(_) => Ok(()),
         Err(refusal) => Err(wrong(format!("no set: {refusal}"))),
-    }
-}
-
-/// The source of events and its name.
-fn open_source(
-    arguments: &Arguments,
-    script: Option<PathBuf>,
-    members: &[(Size, Select)],
-) -> Outcome<(Box<dyn Source>, String)> {
-    let selects: Vec<Select> = members.iter().map(|(_, select)| *select).collect();
-    match (script, arguments.path("--events")) {
-        (Some(path), None) => {
-            let plan = script::load_for_set(&path, &selects)?;
-            Ok((Box::new(PlanSource::new(plan)), title_of(&path)))
-        }
-        (None, Some(path)) => {
-            let source = FileSource::open_for_set(&path, members.len())?;
-            Ok((Box::new(source), title_of(&path)))
-        }
-        (Some(_), Some(_)) => Err(wrong("run takes a SCRIPT or --events, not both")),
-        (None, None) => Err(wrong("run needs a SCRIPT")),
     }
 }
 
@@ -192,10 +174,7 @@ struct Targets {
 
 impl Targets {
     fn open(arguments: &Arguments, title: String) -> Outcome<Targets> {
-        let open = |option| {
-            let path = arguments.path(option);
-            path.map(|path| Replacement::open(&path)).transpose()
-        };
+        let open = |option| open_asked(arguments, option);
         let plans = plans_of(arguments).into_iter();
         Ok(Targets {
             images: open("--image")?,
@@ -242,35 +221,17 @@ fn play_to(
     targets: &mut Targets,
     output: Option<&mut Output>,
 ) -> Outcome {
-    let prints = output.is_some();
-    let mut transcript = output.map(Transcript::new);
     let first = State::of_member(&set.members()[0]);
     let selects: Vec<Select> = set.members().iter().map(Member::select).collect();
-    let svg = targets.svg.as_mut();
-    let mut drawing =
-        svg.map(|file| Drawing::new(file, &targets.title, &first, None).of_set(&selects));
-    let mut listeners: Vec<&mut dyn Listener> = Vec::new();
-    listeners.extend(transcript.as_mut().map(|one| one as &mut dyn Listener));
-    listeners.extend(drawing.as_mut().map(|one| one as &mut dyn Listener));
-    let is_heard = !listeners.is_empty();
-    let mut grouping = Grouping::new(listeners, &first, None);
-    let mut waveform = match targets.vcd.as_mut() {
-        Some(file) => Some(Waveform::begin(file, &first)?),
-        None => None,
-    };
-    let mut observers: Vec<&mut dyn Observer> = Vec::new();
-    if is_heard {
-        observers.push(&mut grouping);
-    }
-    observers.extend(waveform.as_mut().map(|one| one as &mut dyn Observer));
-    let mut outputs = Outputs {
-        observers,
-        prints,
+    let draw = |file| Drawing::new(file, &targets.title, &first, None).of_set(&selects);
+    let audience = Audience {
+        output,
+        drawing: targets.svg.as_mut().map(draw),
+        vcd: targets.vcd.as_mut(),
         answers: targets.answers.as_mut(),
         recording: None,
-        lamps: None,
     };
-    bus::play(set, source, &mut outputs)
+    audience.see(set, &first, source)
 }
 
 /// Each device in words.

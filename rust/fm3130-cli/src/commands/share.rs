@@ -61,7 +61,7 @@ fn test_amount(arguments: &Arguments, turns: &[Turn]) -> Outcome {
 
 /// Refuses a command line in which script and picture are one file.
 fn must_differ(script: &Path, svg: &Path) -> Outcome {
-    if script == Path::new("-") {
+    if files::is_input(script) {
         return Ok(());
     }
     let named = |option, path| NamedFile { option, path };
