@@ -12,6 +12,7 @@
 //! * [`captures`]: files to judge, the second program's verdict on each, and what the proved judge is run on.
 //! * [`panel`]: what the proved program of the lamps is run on, and what it has to print.
 //! * [`almanac`]: what the proved calendar has to print.
+//! * [`layers`]: which files of a Rust package use which. [`rust_words`]: the words of a program in Rust.
 //! * [`edits`]: what the prover said of each edit that it must refuse.
 //! * [`prose`]: what people read in the files of the tree.
 //! * [`quotations`]: quotations, and the papers whose words they are.
@@ -23,9 +24,11 @@ pub mod edits;
 pub mod family;
 pub mod image;
 pub mod lamps;
+pub mod layers;
 pub mod lists;
 pub mod panel;
 pub mod prose;
 pub mod quotations;
+pub mod rust_words;
 pub mod set;
 pub mod standin;
