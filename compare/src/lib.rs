@@ -14,6 +14,7 @@
 //! * [`almanac`]: what the proved calendar has to print.
 //! * [`layers`]: which files of a Rust package use which. [`rust_words`]: the words of a program in Rust.
 //! * [`edits`]: what the prover said of each edit that it must refuse.
+//! * [`public`]: the public functions of the crates.
 //! * [`prose`]: what people read in the files of the tree.
 //! * [`quotations`]: quotations, and the papers whose words they are.
 
@@ -28,6 +29,7 @@ pub mod layers;
 pub mod lists;
 pub mod panel;
 pub mod prose;
+pub mod public;
 pub mod quotations;
 pub mod rust_words;
 pub mod set;

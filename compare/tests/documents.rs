@@ -3,7 +3,6 @@
 //!
 //! * Every file that a page or a comment names exists; and every definition, function, theorem, edit and family of lists that
 //!   a page names.
-//! * The tables of docs/STATEMENTS.md have every public function, as an entry or as another, and every `requires` of one.
 //! * docs/EDITS.md has every edit, with the rule that it breaks.
 //! * D43 of docs/DECISIONS.md has every public enum.
 //! * What stands between quotation marks is in the papers (D219).
@@ -263,107 +262,6 @@ fn names_are_told_from_other_words() {
     ];
     assert_eq!(names, told);
     assert!(is_there("read/write", Path::new("README.md")));
-}
-
-fn stem_of(path: &Path) -> &str {
-    path.file_stem().unwrap().to_str().unwrap()
-}
-
-/// A function that other crates or C can call: its name as the documents write it, and whether it has a `requires`.
-struct Public {
-    name: String,
-    asks: bool,
-}
-
-/// The public functions of one file. A function's contract ends where its body begins, with a line that is a brace.
-fn public_in(owner: &str, file: &str, text: &str) -> Vec<Public> {
-    let lines: Vec<&str> = text.lines().map(str::trim).collect();
-    let named = |line: &str| {
-        let signature = line
-            .strip_prefix("pub fn ")
-            .or_else(|| line.strip_prefix("pub extern \"C\" fn "))?;
-        let end = signature.find(['(', '<'])?;
-        Some(format!("{owner}/src/{file}.{}", &signature[..end]))
-    };
-    let asks = |from: usize| {
-        lines[from..]
-            .iter()
-            .take_while(|line| **line != "{")
-            .any(|line| line.starts_with("requires"))
-    };
-    let at = |(from, line): (usize, &&str)| {
-        named(line).map(|name| Public {
-            name,
-            asks: asks(from),
-        })
-    };
-    lines.iter().enumerate().filter_map(at).collect()
-}
-
-fn public_functions() -> Vec<Public> {
-    let mut found = vec![];
-    for owner in entries_of(&top().join("crates")) {
-        for file in entries_of(&owner.join("src")) {
-            let text = text_of(&file).unwrap();
-            found.extend(public_in(stem_of(&owner), stem_of(&file), &text));
-        }
-    }
-    found
-}
-
-/// The functions that the first column of a table names, in the part of docs/STATEMENTS.md below a heading.
-fn listed_below(heading: &str) -> BTreeSet<String> {
-    let text = text_of(&top().join("docs/STATEMENTS.md")).unwrap();
-    let (_, below) = text
-        .split_once(&format!("\n### {heading}\n"))
-        .unwrap_or_else(|| panic!("docs/STATEMENTS.md has no part {heading}"));
-    let part = below.split("\n#").next().unwrap();
-    part.lines()
-        .filter_map(|line| line.strip_prefix('|')?.split('|').next())
-        .flat_map(|cell| cell.split('`').skip(1).step_by(2))
-        .filter(|name| name.contains("/src/"))
-        .map(str::to_string)
-        .collect()
-}
-
-fn names_of<'a>(functions: impl Iterator<Item = &'a Public>) -> BTreeSet<String> {
-    functions.map(|function| function.name.clone()).collect()
-}
-
-#[test]
-fn every_public_function_is_listed_once() {
-    let entries = listed_below("The entries");
-    let others = listed_below("The other public functions");
-    let both: Vec<&String> = entries.intersection(&others).collect();
-    assert!(both.is_empty(), "listed twice: {both:?}");
-    let listed: BTreeSet<String> = entries.union(&others).cloned().collect();
-    let public = names_of(public_functions().iter());
-    let unlisted: Vec<&String> = public.difference(&listed).collect();
-    assert!(unlisted.is_empty(), "public and not listed: {unlisted:?}");
-    let gone: Vec<&String> = listed.difference(&public).collect();
-    assert!(gone.is_empty(), "listed and not public: {gone:?}");
-}
-
-#[test]
-fn every_requires_of_a_public_function_is_explained_and_no_entry_has_one() {
-    let functions = public_functions();
-    let asking = names_of(functions.iter().filter(|function| function.asks));
-    assert_eq!(asking, listed_below("What a `requires` asks"));
-    let entries = listed_below("The entries");
-    let at_entries: Vec<&String> = asking.intersection(&entries).collect();
-    assert!(at_entries.is_empty(), "{at_entries:?}");
-}
-
-#[test]
-fn public_functions_are_told_from_others() {
-    let text = "fn a() {}\npub(crate) fn b()\n{\npub fn c<'a>(\n    x: &'a [u8],\n) -> u8\n    requires { p }\n{\n}\n\
-                impl X {\n    pub fn d()\n    {\n    }\n    fn e()\n        requires { p }\n";
-    let found = public_in("x", "y", text);
-    let told: Vec<(&str, bool)> = found
-        .iter()
-        .map(|each| (each.name.as_str(), each.asks))
-        .collect();
-    assert_eq!(told, [("x/src/y.c", true), ("x/src/y.d", false)]);
 }
 
 #[test]

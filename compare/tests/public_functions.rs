@@ -1,11 +1,14 @@
 // SPDX-License-Identifier: Apache-2.0
 //! What docs/STATEMENTS.md says of the public functions' contracts, and of what is assumed, is so.
 //!
+//! * Its tables have every public function, as an entry or as another, and every `requires` of one.
 //! * The table of the other public functions has the form of each contract: equations, a record of equations, or another.
 //! * Those of another form are in a table of their own.
 //! * The crates that rest on axioms are the programs that use the C library.
 
 use compare::edits::top;
+use compare::prose::entries_of;
+use compare::public::{self, Code, Public};
 use std::collections::{BTreeMap, BTreeSet};
 use std::fs;
 use std::path::{Path, PathBuf};
@@ -19,15 +22,6 @@ const EQUATIONS: &str = "equations";
 /// How it calls one that is in the table of the others.
 const OTHER_FORM: &str = "another, below";
 
-/// A function that other crates or C can call: its crate, its name as the documents write it, its signature, and the
-/// statements that it ensures.
-struct Public {
-    owner: String,
-    name: String,
-    signature: String,
-    ensures: Vec<String>,
-}
-
 /// The definitions that a file brings in, each with its crate and the file of its crate's specs.
 type Uses = BTreeMap<String, (String, String)>;
 
@@ -35,54 +29,7 @@ fn text_of(path: &Path) -> String {
     fs::read_to_string(path).unwrap_or_else(|error| panic!("{}: {error}", path.display()))
 }
 
-fn files_in(folder: &Path) -> Vec<PathBuf> {
-    let mut paths: Vec<PathBuf> = fs::read_dir(folder)
-        .map(|entries| entries.map(|entry| entry.unwrap().path()).collect())
-        .unwrap_or_default();
-    paths.sort();
-    paths
-}
-
-fn stem_of(path: &Path) -> &str {
-    path.file_stem().unwrap().to_str().unwrap()
-}
-
 // ---- contracts
-
-/// The text from a public function's first line to its body, on one line, if the line at `from` begins one.
-fn head_at(lines: &[&str], from: usize) -> Option<String> {
-    let is_public = ["pub fn ", "pub extern \"C\" fn "]
-        .iter()
-        .any(|start| lines[from].starts_with(start));
-    is_public.then(|| {
-        let head: Vec<&str> = lines[from..]
-            .iter()
-            .copied()
-            .take_while(|line| *line != "{")
-            .collect();
-        head.join(" ")
-    })
-}
-
-fn public_in(owner: &str, file: &str, text: &str) -> Vec<Public> {
-    let lines: Vec<&str> = text.lines().map(str::trim).collect();
-    let heads = (0..lines.len()).filter_map(|from| head_at(&lines, from));
-    heads.map(|head| public_of(owner, file, &head)).collect()
-}
-
-fn public_of(owner: &str, file: &str, head: &str) -> Public {
-    let mut parts = head.split(" ensures { ");
-    let before = parts.next().unwrap();
-    let signature = before.split(" requires { ").next().unwrap();
-    let (_, named) = signature.split_once("fn ").unwrap();
-    let name = named.split(['(', '<']).next().unwrap();
-    Public {
-        owner: owner.to_string(),
-        name: format!("{owner}/src/{file}.{name}"),
-        signature: signature.to_string(),
-        ensures: parts.map(str::to_string).collect(),
-    }
-}
 
 /// The definitions of `ghost use Rattle.CRATE.specs.FILE.{NAME, ..};`, where the crate's own has `·specs` behind its name.
 fn uses_in(text: &str) -> Uses {
@@ -210,14 +157,11 @@ fn form_of(function: &Public, uses: &Uses) -> String {
 /// All public functions, crate by crate, each with the form of its contract.
 fn contracts() -> Vec<(Public, String)> {
     let mut found = vec![];
-    for owner in files_in(&top().join("crates")) {
-        for file in files_in(&owner.join("src")) {
-            let text = text_of(&file);
-            let uses = uses_in(&text);
-            for function in public_in(stem_of(&owner), stem_of(&file), &text) {
-                let form = form_of(&function, &uses);
-                found.push((function, form));
-            }
+    for code in public::code() {
+        let uses = uses_in(&code.text);
+        for function in code.public_functions() {
+            let form = form_of(&function, &uses);
+            found.push((function, form));
         }
     }
     found
@@ -283,6 +227,63 @@ fn other_contracts() -> Vec<(Public, String)> {
         .collect()
 }
 
+/// The functions that the first column of a table of docs/STATEMENTS.md names.
+fn listed_below(heading: &str) -> BTreeSet<String> {
+    let mut names = names_in(&rows_below(heading), 1);
+    names.retain(|name| name.contains("/src/"));
+    names
+}
+
+fn public_functions() -> Vec<Public> {
+    let code = public::code();
+    code.iter().flat_map(Code::public_functions).collect()
+}
+
+fn names_of<'a>(functions: impl Iterator<Item = &'a Public>) -> BTreeSet<String> {
+    functions.map(|function| function.name.clone()).collect()
+}
+
+#[test]
+fn every_public_function_is_listed_once() {
+    let entries = listed_below("The entries");
+    let others = listed_below(OTHERS);
+    let both: Vec<&String> = entries.intersection(&others).collect();
+    assert!(both.is_empty(), "listed twice: {both:?}");
+    let listed: BTreeSet<String> = entries.union(&others).cloned().collect();
+    let public = names_of(public_functions().iter());
+    let unlisted: Vec<&String> = public.difference(&listed).collect();
+    assert!(unlisted.is_empty(), "public and not listed: {unlisted:?}");
+    let gone: Vec<&String> = listed.difference(&public).collect();
+    assert!(gone.is_empty(), "listed and not public: {gone:?}");
+}
+
+#[test]
+fn every_requires_of_a_public_function_is_explained_and_no_entry_has_one() {
+    let functions = public_functions();
+    let asking = names_of(functions.iter().filter(|function| function.asks));
+    assert_eq!(asking, listed_below("What a `requires` asks"));
+    let entries = listed_below("The entries");
+    let at_entries: Vec<&String> = asking.intersection(&entries).collect();
+    assert!(at_entries.is_empty(), "{at_entries:?}");
+}
+
+#[test]
+fn public_functions_are_told_from_others() {
+    let text = "fn a() {}\npub(crate) fn b()\n{\npub fn c<'a>(\n    x: &'a [u8],\n) -> u8\n    requires { p }\n{\n}\n\
+                impl X {\n    pub fn d()\n    {\n    }\n    fn e()\n        requires { p }\n";
+    let code = Code {
+        owner: "x".to_string(),
+        file: "y".to_string(),
+        text: text.to_string(),
+    };
+    let found = code.public_functions();
+    let told: Vec<(&str, bool)> = found
+        .iter()
+        .map(|each| (each.name.as_str(), each.asks))
+        .collect();
+    assert_eq!(told, [("x/src/y.c", true), ("x/src/y.d", false)]);
+}
+
 #[test]
 fn the_form_of_every_contract_is_listed() {
     let must_be = rows_of(&other_contracts());
@@ -309,7 +310,7 @@ fn forms_of_contracts_are_told() {
     let uses = uses_in("ghost use Rattle.clocks.specs.Laid.{Laid};\nghost use Rattle.days.specs.Places.{StandsIn};\n");
     let form = |signature: &str, ensures: &str| {
         let head = format!("pub fn f({signature} ensures {{ {ensures} }}");
-        form_of(&public_of("x", "y", &head), &uses)
+        form_of(&public::public_of("x", "y", &head), &uses)
     };
     let laid = "λ r. ⌜ Laid (now (b .entry)) 0 [] r (now (b .exit)) ⌝";
     for (signature, ensures, must_be) in [
@@ -353,8 +354,9 @@ fn assumes(path: &Path) -> bool {
 
 /// All files below a folder.
 fn files_below(folder: &Path) -> Vec<PathBuf> {
-    let (folders, mut files): (Vec<PathBuf>, Vec<PathBuf>) =
-        files_in(folder).into_iter().partition(|path| path.is_dir());
+    let (folders, mut files): (Vec<PathBuf>, Vec<PathBuf>) = entries_of(folder)
+        .into_iter()
+        .partition(|path| path.is_dir());
     files.extend(folders.iter().flat_map(|folder| files_below(folder)));
     files
 }
