@@ -7,11 +7,12 @@ use super::edges::EdgeReport;
 use super::happening::{BusByte, BusClock, Direction, Happening, PowerChange};
 use super::meaning::{self, Meaning};
 use super::moment::{Moment, TickRun};
-use super::play::Observer;
+use super::play::{play, Observer, Outputs};
 use super::resume::{earlier_clocks, Earlier};
 use super::ticks::TickReport;
-use crate::chip::State;
+use crate::chip::{Chip, State};
 use crate::failure::Outcome;
+use crate::source::Source;
 
 /// What is seen beside the bus, after something happened.
 #[derive(Clone, Copy, Debug)]
@@ -31,6 +32,19 @@ pub trait Listener {
     fn finish(&mut self) -> Outcome {
         Ok(())
     }
+}
+
+/// Lets a device do the events of a source, and tells one listener.
+pub fn play_to(listener: &mut dyn Listener, device: &mut Chip, source: &mut dyn Source) -> Outcome {
+    let mut grouping = Grouping::new(vec![listener], &device.state(), None);
+    let mut outputs = Outputs {
+        observers: vec![&mut grouping],
+        prints: true,
+        answers: None,
+        recording: None,
+        lamps: None,
+    };
+    play(device, source, &mut outputs)
 }
 
 /// Puts events together and tells listeners.

@@ -16,7 +16,7 @@ mod sleep;
 mod ticks;
 
 pub use edges::{word_of, EdgeReport};
-pub use grouping::{Beside, Grouping, Listener};
+pub use grouping::{play_to, Beside, Grouping, Listener};
 pub use happening::{BusByte, BusClock, Direction, Happening, PowerChange};
 pub use meaning::named_by;
 pub use moment::{Moment, TickRun};

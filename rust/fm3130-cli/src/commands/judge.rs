@@ -8,7 +8,7 @@ use fm3130::capture::{self, Capture, Entry, Fault, Verdict};
 use fm3130::{Answer, Device};
 
 use crate::arguments::{wrong, Arguments, Options};
-use crate::bus::{self, Grouping, Listener, Outputs};
+use crate::bus::{self, Listener};
 use crate::chip::{Chip, Part, State};
 use crate::drawing::Drawing;
 use crate::failure::{Failure, Outcome};
@@ -411,19 +411,7 @@ impl Shown {
     /// Lets the device do the events before a listener.
     fn play(&self, listener: &mut dyn Listener) -> Outcome {
         let mut device = Chip::from(self.device.clone());
-        let mut grouping = Grouping::new(vec![listener], &device.state(), None);
-        let mut outputs = Outputs {
-            observers: vec![&mut grouping],
-            prints: true,
-            answers: None,
-            recording: None,
-            lamps: None,
-        };
-        bus::play(
-            &mut device,
-            &mut ListSource::new(&self.events),
-            &mut outputs,
-        )
+        bus::play_to(listener, &mut device, &mut ListSource::new(&self.events))
     }
 }
 

@@ -10,7 +10,7 @@ mod picture;
 use fm3130::masters::{self, Handle, Master};
 use fm3130::{event, Device, Refusal};
 
-use crate::bus::{self, Grouping, Outputs};
+use crate::bus;
 use crate::chip::Chip;
 use crate::failure::{Failure, Outcome};
 use crate::output::Output;
@@ -123,17 +123,8 @@ fn say(played: &Played, before: Device, plan: Plan, output: &mut Output) -> Outc
         Ok(()) => output.line(&who)?,
     }
     let mut chip = Chip::from(before);
-    let state = chip.state();
     let mut transcript = Transcript::new(output);
-    let mut grouping = Grouping::new(vec![&mut transcript], &state, None);
-    let mut outputs = Outputs {
-        observers: vec![&mut grouping],
-        prints: true,
-        answers: None,
-        recording: None,
-        lamps: None,
-    };
-    bus::play(&mut chip, &mut PlanSource::new(plan), &mut outputs)?;
+    bus::play_to(&mut transcript, &mut chip, &mut PlanSource::new(plan))?;
     output.line(&format!("        bus: {}", held_by(played.after)))
 }
 
