@@ -276,13 +276,6 @@ pub fn view<'part>(
 ) -> Result<&'part [u8], Refusal> {
     let number = archive::fm3130_view_number(image, memory, selector, start, length);
     Refusal::outcome_of(number)?;
-    let chosen = match selector {
-        selector::MEMORY => memory,
-        _ => image.get(..REGISTER_COUNT).ok_or(Refusal::Image)?,
-    };
-    // Number 0 says that start + length is at most 8,192, so neither cast loses bits.
-    let (start, length) = (start as usize, length as usize);
-    chosen
-        .get(start..start.saturating_add(length))
-        .ok_or(Refusal::PastTheEnd)
+    let registers = image.get(..REGISTER_COUNT).ok_or(Refusal::Image)?;
+    selector::shown(memory, registers, selector, start, length).ok_or(Refusal::PastTheEnd)
 }

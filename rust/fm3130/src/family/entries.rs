@@ -136,13 +136,6 @@ pub fn view<'part>(
         Size::Kb64 => archive::fm3164_view_number(image, memory, selector, start, length),
         Size::Kb256 => archive::fm31256_view_number(image, memory, selector, start, length),
     })?;
-    let chosen = match selector {
-        selector::MEMORY => memory,
-        _ => image.get(..REGISTER_COUNT).ok_or(Refusal::Image)?,
-    };
-    // Number 0 says that start + length is at most 32,768, so neither cast loses bits.
-    let (start, length) = (start as usize, length as usize);
-    chosen
-        .get(start..start.saturating_add(length))
-        .ok_or(Refusal::PastTheEnd)
+    let registers = image.get(..REGISTER_COUNT).ok_or(Refusal::Image)?;
+    selector::shown(memory, registers, selector, start, length).ok_or(Refusal::PastTheEnd)
 }
