@@ -11,6 +11,7 @@
 //! * [`standin`]: what the proved stand-in is run on, and what it has to print.
 //! * [`captures`]: files to judge, the second program's verdict on each, and what the proved judge is run on.
 //! * [`panel`]: what the proved program of the lamps is run on, and what it has to print.
+//! * [`program_run`]: writes what such a program is run on, and what it has to print.
 //! * [`almanac`]: what the proved calendar has to print.
 //! * [`layers`]: which files of a Rust package use which. [`rust_words`]: the words of a program in Rust.
 //! * [`edits`]: what the prover said of each edit that it must refuse.
@@ -28,6 +29,7 @@ pub mod lamps;
 pub mod layers;
 pub mod lists;
 pub mod panel;
+pub mod program_run;
 pub mod prose;
 pub mod public;
 pub mod quotations;
