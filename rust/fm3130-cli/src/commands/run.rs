@@ -64,20 +64,7 @@ pub fn command(words: Vec<OsString>) -> Outcome {
     }
     let transcript = (!is_quiet).then_some(&mut output);
     play_to(&mut device, &mut *source, &mut targets, transcript, &title)?;
-    if !is_quiet {
-        output.line("")?;
-        for line in words::of_device(&device) {
-            output.line(&line)?;
-        }
-    }
-    if arguments.has("--next-line") {
-        let line = device
-            .next_line()
-            .map_err(|refusal| Failure::Refused(refusal.to_string()))?;
-        for line in words::of_next_line(line) {
-            output.line(&line)?;
-        }
-    }
+    say_how_it_ends(&arguments, &device, &mut output)?;
     output.finish()?;
     targets.commit(&begin, &device)
 }
@@ -137,6 +124,25 @@ fn say_where_it_begins(device: &Chip, output: &mut Output) -> Outcome {
         Phase::Idle => Ok(()),
         _ => output.line(&format!("begins inside: {}", words::bus(&state))),
     }
+}
+
+/// The device in words, and what it will do to the line, where these are wanted.
+fn say_how_it_ends(arguments: &Arguments, device: &Chip, output: &mut Output) -> Outcome {
+    if !arguments.has("--quiet") {
+        output.line("")?;
+        for line in words::of_device(device) {
+            output.line(&line)?;
+        }
+    }
+    if arguments.has("--next-line") {
+        let line = device
+            .next_line()
+            .map_err(|refusal| Failure::Refused(refusal.to_string()))?;
+        for line in words::of_next_line(line) {
+            output.line(&line)?;
+        }
+    }
+    Ok(())
 }
 
 /// Plays a source to all who want to see it.
