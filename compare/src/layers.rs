@@ -9,6 +9,7 @@ use crate::rust_words::{is_of_a_word, words_of};
 use std::collections::{BTreeMap, BTreeSet, VecDeque};
 use std::fs;
 use std::path::{Path, PathBuf};
+use std::slice;
 
 /// The names that lead from the top of a package to a module or to what is in it; none for the top itself.
 type Names = Vec<String>;
@@ -150,7 +151,7 @@ fn from_the_top(
         "self" => at.clone(),
         "super" => at[..at.len().checked_sub(above)?].to_vec(),
         _ if known.is_some() => known?.from.clone(),
-        _ if children.contains(first) => [at.as_slice(), &[first.clone()]].concat(),
+        _ if children.contains(first) => [at, slice::from_ref(first)].concat(),
         _ => return None,
     };
     let behind = &behind[above.saturating_sub(1)..];
@@ -258,7 +259,7 @@ fn way_back(uses: &BTreeMap<&Names, BTreeSet<Names>>, at: &Names) -> Option<Vec<
     let mut seen = BTreeSet::new();
     while let Some(way) = ways.pop_front() {
         for next in &uses[way.last()?] {
-            let longer = [way.as_slice(), &[next.clone()]].concat();
+            let longer = [way.as_slice(), slice::from_ref(next)].concat();
             if next == at {
                 return Some(longer);
             }
