@@ -7,5 +7,6 @@ pub mod Masks
 pub mod Storing
 pub mod Written
 pub mod Control
+pub mod ReadOut
 pub mod Held
 pub mod Setting

@@ -2,5 +2,6 @@
 pub mod Ticks
 pub mod Fixed
 pub mod Written
+pub mod ReadOut
 pub mod Held
 pub mod Setting
