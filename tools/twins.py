@@ -3,7 +3,8 @@
 """twins.py [NAME...]: tries the twins of twins/, or those named: devices with a rule that is wrong in definition and code alike.
 
 Nothing but a law in other words can refuse a twin, so it passes this test only if every crate below the law is proved with it and
-the law is not: the crate and the file of proofs that its head names. A twin is a text: lines of `#` first, among them
+the law is not: the crate that its head names is the first that fails, and each law named is among its errors. A twin is a text:
+lines of `#` first, among them
 
     # Refused by: CRATE, `LAW` (proofs/FILE.antt).
     # Prove: CRATE
@@ -30,12 +31,13 @@ class Twin:
     def __init__(self, path):
         text = open(path, encoding="utf-8").read()
         self.name = os.path.basename(path)[: -len(".twin")]
-        refused = re.search(r"^# Refused by: (\w+),.*?\((proofs/[\w/]+\.antt)\)", text, re.M | re.S)
+        refused = re.search(r"^# Refused by: (\w+), (.+)$", text, re.M)
         prove = re.search(r"^# Prove: (.+)$", text, re.M)
         self.places = re.findall(r"^file: (.+)\nold: (.+)\nnew: (.*)$", text, re.M)
         if not (refused and prove and self.places):
             sys.exit(f"twins: {path} lacks who refuses it, what is to be proved, or a place")
-        self.law, self.proofs = refused.groups()
+        self.law = refused.group(1)
+        self.laws = re.findall(r"`([\w-]+)`", refused.group(2))
         self.crates = prove.group(1).split()
 
     def apply(self, folder):
@@ -56,9 +58,9 @@ class Twin:
             return "it was proved: no law refuses it"
         if unproved[0] != self.law:
             return f"{unproved[0]} refused it, before {self.law}"
-        first = re.search(r"crates/\w+/((?:proofs|specs|src)/\S+?):\d+:\d+: error", said)
-        if not first or first.group(1) != self.proofs:
-            return f"{self.law} refused it in {first.group(1) if first else 'no file'}, not in {self.proofs}"
+        spared = [law for law in self.laws if f"error: `{law}`" not in said]
+        if spared:
+            return f"{self.law} refused it, but not by {', '.join(spared)}"
         return None
 
 
