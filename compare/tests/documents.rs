@@ -206,6 +206,22 @@ fn answers() -> String {
     part[..part.find("\n## ").unwrap_or(part.len())].to_string()
 }
 
+/// A merge can leave an old row beside the new one.
+#[test]
+fn each_form_and_each_enum_has_one_row() {
+    let text = text_of(&top().join("docs/DECISIONS.md")).unwrap();
+    let (_, part) = text
+        .split_once("\n## D35. ")
+        .expect("docs/DECISIONS.md has no D35");
+    let part = &part[..part.find("\n## ").unwrap_or(part.len())];
+    let mut seen = BTreeSet::new();
+    for row in part.lines().filter(|line| line.starts_with("| ")) {
+        let first = row.split(" | ").next().unwrap_or_default();
+        assert!(seen.insert(first), "two rows begin with {first}");
+    }
+    assert!(seen.len() > 18, "{} rows are few", seen.len());
+}
+
 #[test]
 fn every_enum_is_said_to_be_an_answer_or_none() {
     let answers = answers();
