@@ -163,10 +163,11 @@ fn has_name(file: &str, name: &str) -> bool {
     }
 }
 
-/// All files but the notes of the landings, which name what there was on their day.
+/// All files but the notes of the landings and the archive, which name what there was on their day.
 fn read_files() -> Vec<PathBuf> {
     let files = prose::files_of(&top());
-    let is_read = |file: &PathBuf| !file.ends_with("LANDINGS.md");
+    let is_read =
+        |file: &PathBuf| !file.ends_with("LANDINGS.md") && !file.starts_with("docs/archive");
     files.into_iter().filter(is_read).collect()
 }
 

@@ -58,7 +58,7 @@ hearAt v second-passed = this Second
 hearAt v (edge-one w) = onlyIf (samePlace w v) Cnt1
 hearAt v (edge-two w) = onlyIf (samePlace w v) Cnt2
 
--- Event bytes 8 and 9 are edges of the first device, 10 and 11 of the second, and so on (docs/AMENDMENTS.md).
+-- Event bytes 8 and 9 are edges of the first device, 10 and 11 of the second, and so on (docs/RULES.md).
 abbrev pub tockByte : Tock → ℕ
 tockByte second-passed = 4
 tockByte (edge-one v) = 8 + 2 * numberOf v
