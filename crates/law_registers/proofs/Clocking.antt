@@ -43,7 +43,7 @@ Desk = companion.Companion
 abbrev after : Phase → ℕ → List ℕ → Desk → Bool → Machine.Out fm3130
 after p a m c d = clocked fm3130 p (lent m a) c d
 
-clock-leads : (p : Phase) (a : ℕ) (m : List ℕ) (c : Desk) (d : Bool)
+pub clock-leads : (p : Phase) (a : ℕ) (m : List ℕ) (c : Desk) (d : Bool)
     → Leads (onBus p a c) m (clockEvent d ∷ [])
     (onBus (after p a m c d .state .phase) (after p a m c d .state .memory .address) (after p a m c d .state .companion))
     (after p a m c d .state .memory .bytes) (after p a m c d .line ∷ [])

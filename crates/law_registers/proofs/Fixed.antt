@@ -115,7 +115,7 @@ module _ (a : ℕ) (m : List ℕ) (c : Desk) (b n₀ n₁ n₂ n₃ n₄ n₅ n�
       }
 
 -- from a state on the bus to every state
-of-reads : (side : Side) (X : State → List ℕ → ℕ → List ℕ → List Bool → Type 0)
+pub of-reads : (side : Side) (X : State → List ℕ → ℕ → List ℕ → List Bool → Type 0)
     → ((a : ℕ) (m : List ℕ) (c : Desk) (b n₀ n₁ n₂ n₃ n₄ n₅ n₆ n₇ : ℕ) (d₀ d₁ d₂ d₃ d₄ d₅ d₆ d₇ : Bool)
     → X (onBus (Read side 0 b) a c) m n₀ (countsOf n₀ n₁ n₂ n₃ n₄ n₅ n₆ n₇) (eight d₀ d₁ d₂ d₃ d₄ d₅ d₆ d₇))
     → OfReads side X

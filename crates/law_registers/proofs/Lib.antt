@@ -10,3 +10,7 @@ pub mod Control
 pub mod ReadOut
 pub mod Held
 pub mod Setting
+pub mod Later
+pub mod UnderWay
+pub mod ReadBack
+pub mod BadDate

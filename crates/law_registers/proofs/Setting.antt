@@ -41,14 +41,14 @@ use Rattle.law_registers.proofs.Control.{not-refused}
 use Rattle.law_registers.proofs.Held.{Leaves, tick-leaves, still-held}
 
 -- a list of events leads to a state, the memory kept
-record Goes (s : State) (m es : List ℕ) (s′ : State) : Type 0 where
+pub record Goes (s : State) (m es : List ℕ) (s′ : State) : Type 0 where
   pub state : runOf s m es .state ≡ s′
   pub memory : runOf s m es .memory ≡ m
 
-of-leads : {s s′ : State} {m es : List ℕ} {ls : List Bool} → Leads s m es s′ m ls → Goes s m es s′
+pub of-leads : {s s′ : State} {m es : List ℕ} {ls : List Bool} → Leads s m es s′ m ls → Goes s m es s′
 of-leads l = record { state = l .state; memory = l .memory }
 
-goes-then : {s s′ s″ : State} {m xs ys : List ℕ} → Goes s m xs s′ → Goes s′ m ys s″ → Goes s m (xs ++ ys) s″
+pub goes-then : {s s′ s″ : State} {m xs ys : List ℕ} → Goes s m xs s′ → Goes s′ m ys s″ → Goes s m (xs ++ ys) s″
 goes-then {s} {m = m} {xs = xs} {ys = ys} p q =
     let e = run-append s m xs ys in
     record {
@@ -188,7 +188,7 @@ w-stays c c′ l w =
     rw h w
 
 -- a write of 00h that is not refused
-control-stored : (c : Desk) (b : ℕ)
+pub control-stored : (c : Desk) (b : ℕ)
     → (has (c .registers .control) 0x02 ≡ true → has b 0x02 ≡ false → isValid (c .registers .time) ≡ true)
     → storeOf (withAddress c 0) b ≡ record { companion = steppedOf (controlWritten (withAddress c 0) b); acknowledged = true }
 control-stored c b h =

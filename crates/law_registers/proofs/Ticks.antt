@@ -30,7 +30,7 @@ abbrev pub tickedAll : List ℕ → Companion → Companion
 tickedAll [] c = c
 tickedAll (n ∷ ns) c = tickedAll ns (ticked n c)
 
-ticked-add : (n k : ℕ) (c : Companion) → ticked k (ticked n c) ≡ ticked (n + k) c
+pub ticked-add : (n k : ℕ) (c : Companion) → ticked k (ticked n c) ≡ ticked (n + k) c
 ticked-add zero k c = ap (λ (x : ℕ). ticked x c) (sym (zero-add k))
 ticked-add (suc n) k c = ticked-add n k (tickOf c) ∙ ap (λ (x : ℕ). ticked x c) (sym (suc-add n k))
 

@@ -5,3 +5,7 @@ pub mod Written
 pub mod ReadOut
 pub mod Held
 pub mod Setting
+pub mod Later
+pub mod UnderWay
+pub mod ReadBack
+pub mod BadDate

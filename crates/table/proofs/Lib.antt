@@ -11,3 +11,4 @@ pub mod Eighth
 pub mod Table
 pub mod Entry
 pub mod Valid
+pub mod Dates

@@ -11,3 +11,4 @@ pub mod Script
 pub mod Table
 pub mod Entry
 pub mod Valid
+pub mod Dates
