@@ -1,6 +1,6 @@
 #!/usr/bin/python3
 # SPDX-License-Identifier: Apache-2.0
-"""twins.py [NAME...]: tries the twins of twins/, or those named: devices with a rule that is wrong in definition and code alike.
+r"""twins.py [NAME...]: tries the twins of twins/, or those named: devices with a rule that is wrong in definition and code alike.
 
 Nothing but a law in other words can refuse a twin, so it passes this test only if every crate below the law is proved with it and
 the law is not: the crate that its head names is the first that fails, and each law named is among its errors. A twin is a text:
@@ -9,7 +9,7 @@ lines of `#` first, among them
     # Refused by: CRATE, `LAW` (proofs/FILE.antt).
     # Prove: CRATE
 
-and then places, each `file:`, `old:` and `new:`, an `old` that stands there once.
+and then places, each `file:`, `old:` and `new:`, an `old` that stands there once; in both \n is the end of a line.
 
 They are tried on a copy of the crates outside the repository, over what is proved already; what the prover said of each is in
 build/log/twins/NAME.txt.
@@ -33,7 +33,8 @@ class Twin:
         self.name = os.path.basename(path)[: -len(".twin")]
         refused = re.search(r"^# Refused by: (\w+), (.+)$", text, re.M)
         prove = re.search(r"^# Prove: (.+)$", text, re.M)
-        self.places = re.findall(r"^file: (.+)\nold: (.+)\nnew: (.*)$", text, re.M)
+        places = re.findall(r"^file: (.+)\nold: (.+)\nnew: (.*)$", text, re.M)
+        self.places = [(file, old.replace("\\n", "\n"), new.replace("\\n", "\n")) for file, old, new in places]
         if not (refused and prove and self.places):
             sys.exit(f"twins: {path} lacks who refuses it, what is to be proved, or a place")
         self.law = refused.group(1)

@@ -16,7 +16,7 @@ use Rattle.device.specs.Event.{happening}
 use Rattle.holding.specs.Bus.{isBus, anyBus, freedBy, frees}
 
 -- events 0 to 3 are those of the bus
-bus-byte : (e : ℕ) → isBus (happening e) ≡ leb e 3
+pub bus-byte : (e : ℕ) → isBus (happening e) ≡ leb e 3
 unfolding happening
 bus-byte e =
     by-test (eqb e 0) (λ a. let z = eqb-true e 0 a in rw (a, le-leb e 3 (omega arith)) refl)

@@ -8,3 +8,4 @@ pub mod Proposals
 pub mod Unique
 pub mod Numbers
 pub mod Cases
+pub mod Ends

@@ -6,3 +6,4 @@ pub mod Neighbours
 pub mod Proposal
 pub mod Entries
 pub mod Cases
+pub mod Ends

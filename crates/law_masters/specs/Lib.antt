@@ -1,0 +1,5 @@
+-- SPDX-License-Identifier: Apache-2.0
+pub mod Each
+pub mod Asks
+pub mod Calls
+pub mod Freed
