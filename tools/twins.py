@@ -11,8 +11,8 @@ lines of `#` first, among them
 
 and then places, each `file:`, `old:` and `new:`, an `old` that stands there once; in both \n is the end of a line.
 
-They are tried on a copy of the crates outside the repository, over what is proved already; what the prover said of each is in
-build/log/twins/NAME.txt.
+They are tried on a copy of the crates outside the repository, over what is proved already of the crates that they stand on; what
+the prover said of each is in build/log/twins/NAME.txt.
 """
 import os
 import re
@@ -65,12 +65,24 @@ class Twin:
         return None
 
 
+def copy(twin, folder):
+    """Copies the crates, and what is proved of those that the twin stands on."""
+    shutil.copytree(os.path.join(TOP, "crates"), os.path.join(folder, "crates"), symlinks=True)
+    shutil.copy(os.path.join(TOP, "crates.txt"), folder)
+    os.makedirs(os.path.join(folder, "target/stamp"))
+    below = subprocess.run([os.path.join(TOP, "tools/crates-below.sh"), *twin.crates], text=True, capture_output=True, check=True)
+    for crate in below.stdout.split():
+        stamp = os.path.join("target/stamp", crate)
+        if os.path.exists(os.path.join(TOP, stamp)):
+            rlib = os.path.join("target/rlib", crate + ".rlib")
+            shutil.copytree(os.path.join(TOP, rlib), os.path.join(folder, rlib), symlinks=True)
+            shutil.copy(os.path.join(TOP, stamp), os.path.join(folder, stamp))
+
+
 def tried(twin):
     """Tries a twin on a copy of its own; what is wrong, or nothing."""
     with tempfile.TemporaryDirectory() as folder:
-        for part in ("crates", "target"):
-            shutil.copytree(os.path.join(TOP, part), os.path.join(folder, part), symlinks=True)
-        shutil.copy(os.path.join(TOP, "crates.txt"), folder)
+        copy(twin, folder)
         fault = twin.apply(folder)
         if fault:
             return fault

@@ -3,3 +3,4 @@ pub mod Replays
 pub mod Firsts
 pub mod Verdicts
 pub mod Laws
+pub mod Faults

@@ -2,3 +2,4 @@
 pub mod Asks
 pub mod Calls
 pub mod Freed
+pub mod Refusals

@@ -70,7 +70,7 @@ pub leaves-ticks : LeavesTicks
 leaves-ticks = of-reads Companion TicksLeft ticks-left
 
 -- the same oscillator, alarm and core; a flag of the one is there before, or is the other's
-record Rises (af cf : Bool) (c k : Desk) : Type 0 where
+pub record Rises (af cf : Bool) (c k : Desk) : Type 0 where
   pub trim : k .registers .trim ≡ c .registers .trim
   pub alarm : k .registers .alarm ≡ c .registers .alarm
   pub core : k .core ≡ c .core
@@ -123,7 +123,7 @@ module _ (af cf : Bool) where
       subst (λ (x : ℕ). Rises af cf (tickOf c) (cond (has x OSCEN) k (countedOf k))) (sym (r .trim))
       (either (has (c .registers .trim) OSCEN) r (counted-rises c k r))
 
-  ticks-rise : (n : ℕ) (c k : Desk) → Rises af cf c k → Rises af cf (ticked n c) (ticked n k)
+  pub ticks-rise : (n : ℕ) (c k : Desk) → Rises af cf c k → Rises af cf (ticked n c) (ticked n k)
   ticks-rise zero c k r = r
   ticks-rise (suc n) c k r = ticks-rise n (tickOf c) (tickOf k) (tick-rises c k r)
 

@@ -7,10 +7,11 @@ pub mod Masks
 pub mod Storing
 pub mod Written
 pub mod Control
-pub mod ReadOut
 pub mod Held
 pub mod Setting
+pub mod ReadOut
 pub mod Later
 pub mod UnderWay
 pub mod ReadBack
 pub mod BadDate
+pub mod Snapshot

@@ -70,7 +70,7 @@ control-low old b =
         (λ h. let e : (x + old / 32 % 4 * 32 + 0 + b % 16) / 2 % 2 ≡ b / 2 % 2 = omega arith in rw e)
 
 -- one of 02h to 08h, with W at 1
-time-writes : (c : Desk) (b : ℕ) → 2 ≤ c .address → c .address ≤ 8 → has (c .registers .control) 0x02 ≡ true
+pub time-writes : (c : Desk) (b : ℕ) → 2 ≤ c .address → c .address ≤ 8 → has (c .registers .control) 0x02 ≡ true
     → storeOf c b ≡ record { companion = steppedOf (byteStored c b); acknowledged = true }
 time-writes c b l g w =
     let written : writtenOf c b ≡ byteStored c b =
@@ -105,7 +105,7 @@ module _ (a : ℕ) (m : List ℕ) where
   time-byte c b l t g w = taken c (steppedOf (byteStored c b)) b l (time-writes c b t g w)
 
   -- a transaction that writes 00h alone
-  control-goes : (p : Phase) (c k : Desk) (b : ℕ) → b < 256
+  pub control-goes : (p : Phase) (c k : Desk) (b : ℕ) → b < 256
       → storeOf (withAddress c 0) b ≡ record { companion = k; acknowledged = true }
       → Goes (onBus p a c) m (writeRegisters 0 (b ∷ [])) (onBus Idle a k)
   control-goes p c k b l e =
@@ -144,7 +144,7 @@ module _ (a : ℕ) (m : List ℕ) where
       (leads-then (time-byte c₈ (t .year) y (lit≤ tt) (lit≤ tt) w)
       (stop-leads a m (timed c t) (Write Companion 0 0))))))))))))
 
-  ticks-go : (p : Phase) (c : Desk) (n : ℕ) → Goes (onBus p a c) m (ticks n) (onBus p a (ticked n c))
+  pub ticks-go : (p : Phase) (c : Desk) (n : ℕ) → Goes (onBus p a c) m (ticks n) (onBus p a (ticked n c))
   ticks-go p c n = of-leads (ticks-lead p a m n c)
 
 -- a calendar within the widths is stored as it is
@@ -173,7 +173,7 @@ stored-whole c t b =
     }
 
 -- any number of ticks while W is 1
-ticks-leave : (n : ℕ) (c : Desk) → (has (c .registers .control) 0x02 || has (c .registers .control) 0x01) ≡ true
+pub ticks-leave : (n : ℕ) (c : Desk) → (has (c .registers .control) 0x02 || has (c .registers .control) 0x01) ≡ true
     → Leaves c (ticked n c)
 ticks-leave zero c h = record { time = refl; low = refl }
 ticks-leave (suc n) c h =
@@ -181,7 +181,7 @@ ticks-leave (suc n) c h =
     let r = ticks-leave n (tickOf c) (still-held c (tickOf c) l h) in
     record { time = r .time ∙ l .time; low = r .low ∙ l .low }
 
-w-stays : (c c′ : Desk) → Leaves c c′ → has (c .registers .control) 0x02 ≡ true → has (c′ .registers .control) 0x02 ≡ true
+pub w-stays : (c c′ : Desk) → Leaves c c′ → has (c .registers .control) 0x02 ≡ true → has (c′ .registers .control) 0x02 ≡ true
 w-stays c c′ l w =
     let e = l .low in
     let h : c′ .registers .control / 2 % 2 ≡ c .registers .control / 2 % 2 = omega arith in

@@ -2,10 +2,11 @@
 pub mod Ticks
 pub mod Fixed
 pub mod Written
-pub mod ReadOut
 pub mod Held
 pub mod Setting
+pub mod ReadOut
 pub mod Later
 pub mod UnderWay
 pub mod ReadBack
 pub mod BadDate
+pub mod Snapshot
