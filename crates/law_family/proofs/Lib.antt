@@ -1,0 +1,11 @@
+-- SPDX-License-Identifier: Apache-2.0
+pub mod Away
+pub mod Beats
+pub mod Edges
+pub mod Runs
+pub mod Pace
+pub mod Bits
+pub mod Written
+pub mod Fixed
+pub mod Named
+pub mod Worked

@@ -1,0 +1,10 @@
+-- SPDX-License-Identifier: Apache-2.0
+pub mod Seen
+pub mod Left
+pub mod Away
+pub mod Beats
+pub mod Edges
+pub mod Written
+pub mod Fixed
+pub mod Named
+pub mod Worked
