@@ -8,10 +8,11 @@ ghost use Rattle.bus.specs.Select.{slaveNamesFor};
 use wire::Named;
 use wire::Phase;
 use wire::Turned;
-use wire::between::keep;
 use wire::bits::push;
+use wire::nine::count;
+use wire::nine::receive;
 use wire::slave::answers;
-use wire::slave::slave_clock;
+use wire::slave::opened;
 use wire::slave::slave_names;
 
 // The select bits of a part that is alone on its line: its slave bytes are those of 01.
@@ -28,33 +29,20 @@ pub fn names_for(select: u8, byte: u8) -> Named
     Named::Nobody
 }
 
-// A Clock in a slave byte: before its eighth clock, and at its acknowledge, as without select bits.
+// A Clock in a slave byte: it is acknowledged where it names somebody, and its acknowledge opens what it names. Whom it
+// names is looked up once it is whole.
 pub(crate) fn select_clock(select: u8, clocks: u8, byte: u8, high: bool) -> Turned
     ensures { λ r. ⌜ r ≡ turnedOf (received (slaveByte (slaveNamesFor select)) tt clocks byte high) ⌝ }
 {
+    let whole = push(byte, high);
+    let next = Phase::Slave {
+        clocks: count(clocks),
+        byte: whole,
+    };
     if clocks < 7 {
-        return slave_clock(clocks, byte, high);
+        return receive(clocks, high, next, true, Phase::Idle);
     }
-    if clocks == 7 {
-        let whole = push(byte, high);
-        let acknowledged = answers(names_for(select, whole));
-        return Turned {
-            phase: keep(
-                acknowledged,
-                Phase::Slave {
-                    clocks: 8,
-                    byte: whole,
-                },
-            ),
-            line: high,
-        };
-    }
-    let chosen = byte / 2 % 4;
-    if chosen == select {
-        return slave_clock(clocks, byte - 2 * chosen, high);
-    }
-    Turned {
-        phase: Phase::Idle,
-        line: false,
-    }
+    let good = answers(names_for(select, whole));
+    let after = opened(names_for(select, byte));
+    receive(clocks, high, next, good, after)
 }

@@ -7,11 +7,9 @@ use mathlib.Core.Path.{_≡_, refl}
 use mathlib.Core.Bool.{Bool, true, false, cond, _&&_}
 use native.Mathlib.Omega.{arith}
 use lib.Dec.{eqb, ltb}
-use borrow.Author.Tests.{lt-ltb, le-ltb, eq-eqb, ne-eqb, eqb-true, eqb-false}
+use borrow.Author.Tests.{lt-ltb, le-ltb, ne-eqb}
 use Rattle.wire.specs.Bits.{Place, first, within, last, ack, placeAt, pushed, sentBit}
 use Rattle.wire.specs.Clock.{Half, half, Receiver, received, receivedAt, kept, Sender, sent, sentAt, more}
-use Rattle.wire.specs.Kinds.{highByte}
-use Rattle.wire.specs.declared.Phase.the-variants.{AddressHigh, AddressLow}
 
 -- where a byte stands
 place-within : (k : ℕ) → (k ≡ 0 → ⊥) → k < 7 → placeAt k ≡ within
@@ -61,16 +59,3 @@ module _ {A : Type 0} (S : Sender A) (a : A) where
   pub sent-ack : (k b : ℕ) (d : Bool) → 7 ≤ k → (k ≡ 7 → ⊥) → sent S a k b d ≡ half (more d (S .here 0 0)) a d
   unfolding sentAt
   sent-ack k b d h n = rw (place-ack k h n)
-
--- the first address byte of a memory write is always taken, so its first eight clocks do alike
-high-eighth : (k b : ℕ) (d t : Bool) → eqb k 7 ≡ t → k < 8
-    → received highByte tt k b d ≡ half (AddressHigh (k + 1) (pushed b d)) tt d
-unfolding kept
-high-eighth k b d true e h = rw (received-last highByte tt k b d (eqb-true k 7 e), eqb-true k 7 e)
-high-eighth k b d false e h = let n = eqb-false k 7 e in received-inside highByte tt k b d (omega arith)
-
-pub high-inside : (k b : ℕ) (d : Bool) → k < 8 → received highByte tt k b d ≡ half (AddressHigh (k + 1) (pushed b d)) tt d
-high-inside k b d h = high-eighth k b d (eqb k 7) refl h
-
-pub high-ack : (k b : ℕ) (d : Bool) → 8 ≤ k → received highByte tt k b d ≡ half (AddressLow b 0 0) tt false
-high-ack k b d h = received-ack highByte tt k b d (omega arith) (λ e. omega arith)

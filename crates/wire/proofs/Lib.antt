@@ -3,6 +3,7 @@ pub mod Match
 pub mod Tests
 pub mod HighFirst
 pub mod Clock
+pub mod Handed
 pub mod Cells
 pub mod Low
 pub mod Framing

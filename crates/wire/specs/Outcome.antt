@@ -3,9 +3,13 @@
 -- Assumes nothing.
 use Prim.Native.Nat.{ℕ}
 use mathlib.Core.Path.{_≡_}
+use mathlib.Core.Bool.{Bool}
 use mathlib.Core.List.{List}
-use Rattle.wire.specs.Clock.{Half, Taken}
+use Rattle.wire.specs.Clock.{Half, Taken, Receiver, Sender}
 use Rattle.wire.specs.Memory.{Cells}
+use Rattle.wire.specs.declared.Side.{Side}
+use Rattle.wire.specs.declared.Phase.{Phase}
+use Rattle.wire.specs.declared.Phase.the-variants.{Read}
 use Rattle.wire.specs.declared.Turned.{Turned}
 use Rattle.wire.specs.declared.Moved.{Moved}
 use Rattle.wire.specs.declared.Put.{Put}
@@ -14,7 +18,18 @@ use Rattle.wire.specs.declared.Put.{Put}
 abbrev pub turnedOf : Half (Unit {0}) → Turned
 turnedOf h = record { phase = h .phase; line = h .line }
 
+-- Auxiliary: a byte that comes in, given its next phase, whether it is acknowledged, and the phase after its acknowledge; a
+-- byte that goes out, given the byte at the address.
+abbrev pub incoming : Phase → Bool → Phase → Receiver (Unit {0})
+incoming p g q = record { here = λ k b. p; take = λ u b. record { next = u; good = g }; after = λ b. q }
+
+abbrev pub outgoing : Side → ℕ → Sender (Unit {0})
+outgoing s x = record { here = Read s; fetch = λ u. x; done = λ u b. u }
+
 -- Auxiliary: a clock that served the memory; the bytes stay with their lender.
+abbrev pub withAddress : Turned → ℕ → Moved
+withAddress t a = record { phase = t .phase; address = a; line = t .line }
+
 abbrev pub movedOf : Half Cells → Moved
 movedOf h = record { phase = h .phase; address = h .part .address; line = h .line }
 

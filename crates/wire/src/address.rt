@@ -6,11 +6,14 @@ ghost use Prim.Native.Nat.{ℕ, _<_};
 ghost use Rattle.wire.specs.Clock.{received};
 ghost use Rattle.wire.specs.Kinds.{lowByte};
 ghost use Rattle.wire.specs.Memory.{lent, joined, next, pointed};
-ghost use Rattle.wire.specs.Outcome.{movedOf};
+ghost use Rattle.wire.specs.Outcome.{withAddress, movedOf};
 use crate::Moved;
 use crate::Phase;
 use crate::Side;
+use crate::Turned;
 use crate::bits::push;
+use crate::nine::count;
+use crate::nine::receive;
 
 // The address that two address bytes give: bits above the size are ignored.
 fn join(size: u16, high: u8, low: u8) -> u16
@@ -28,43 +31,39 @@ pub(crate) fn next_address(size: u16, address: u16) -> u16
     (address + 1) % size
 }
 
+impl Turned {
+    // What the clock leaves, with the memory address beside it.
+    pub(crate) fn with_address(self, address: u16) -> Moved
+        ensures { λ r. ⌜ r ≡ withAddress self address ⌝ }
+    {
+        let phase = self.phase;
+        Moved {
+            phase: phase,
+            address: address,
+            line: self.line,
+        }
+    }
+}
+
 // A Clock in the second address byte of a memory write.
 pub fn low_clock(size: u16, address: u16, upper: u8, clocks: u8, byte: u8, high: bool) -> Moved
     requires { ⌜ 0 < size ⌝ }
     ensures { λ r. ⌜ ((m : List ℕ) → r ≡ movedOf (received (lowByte (pointed size) upper) (lent m address) clocks byte high)) ⌝ }
 {
-    if clocks < 7 {
-        let phase = Phase::AddressLow {
-            high: upper,
-            clocks: clocks + 1,
-            byte: push(byte, high),
-        };
-        return Moved {
-            phase: phase,
-            address: address,
-            line: high,
-        };
-    }
+    let low = push(byte, high);
+    let next = Phase::AddressLow {
+        high: upper,
+        clocks: count(clocks),
+        byte: low,
+    };
+    let after = Phase::Write {
+        side: Side::Memory,
+        clocks: 0,
+        byte: 0,
+    };
+    let turned = receive(clocks, high, next, true, after);
     if clocks == 7 {
-        let low = push(byte, high);
-        let phase = Phase::AddressLow {
-            high: upper,
-            clocks: 8,
-            byte: low,
-        };
-        return Moved {
-            phase: phase,
-            address: join(size, upper, low),
-            line: high,
-        };
+        return turned.with_address(join(size, upper, low));
     }
-    Moved {
-        phase: Phase::Write {
-            side: Side::Memory,
-            clocks: 0,
-            byte: 0,
-        },
-        address: address,
-        line: false,
-    }
+    turned.with_address(address)
 }

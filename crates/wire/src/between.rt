@@ -7,7 +7,7 @@ use crate::Phase;
 use crate::Side;
 
 // The phase at the eighth clock of a byte from the master: a byte that is not acknowledged ends the transfer there.
-pub fn keep(acknowledged: bool, phase: Phase) -> Phase
+pub(crate) fn keep(acknowledged: bool, phase: Phase) -> Phase
     ensures { λ r. ⌜ r ≡ kept acknowledged phase ⌝ }
 {
     if acknowledged {
@@ -17,7 +17,7 @@ pub fn keep(acknowledged: bool, phase: Phase) -> Phase
 }
 
 // The phase after the ninth clock of a byte to the master: its low bit asks for more, its high bit ends the transfer.
-pub fn go_on(high: bool, phase: Phase) -> Phase
+pub(crate) fn go_on(high: bool, phase: Phase) -> Phase
     ensures { λ r. ⌜ r ≡ more high phase ⌝ }
 {
     if high {
@@ -27,7 +27,7 @@ pub fn go_on(high: bool, phase: Phase) -> Phase
 }
 
 // A byte to the master, so many of its clocks done.
-pub fn sending(side: Side, clocks: u8, byte: u8) -> Phase
+pub(crate) fn sending(side: Side, clocks: u8, byte: u8) -> Phase
     ensures { λ r. ⌜ r ≡ Read side clocks byte ⌝ }
 {
     Phase::Read {

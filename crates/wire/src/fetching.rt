@@ -10,9 +10,7 @@ ghost use Rattle.wire.specs.Outcome.{movedOf};
 use crate::Moved;
 use crate::Side;
 use crate::address::next_address;
-use crate::between::go_on;
-use crate::between::sending;
-use crate::bits::sending_line;
+use crate::nine::send;
 
 // A Clock in a data byte to the master.
 pub fn fetch_clock(
@@ -26,37 +24,10 @@ pub fn fetch_clock(
     requires { ⌜ (length (now memory) ≡ size) × (address < size) ⌝ }
     ensures { λ r. ⌜ r ≡ movedOf (sent (memoryRead byteAt (steppedOn size)) (lent (now (memory .entry)) address) clocks byte high) ⌝ }
 {
-    if clocks == 0 {
-        let at = address as usize;
-        let fixed = memory[at];
-        let line = sending_line(fixed, 0, high);
-        return Moved {
-            phase: sending(Side::Memory, 1, fixed),
-            address: address,
-            line: line,
-        };
-    }
-    if clocks < 7 {
-        let line = sending_line(byte, clocks, high);
-        return Moved {
-            phase: sending(Side::Memory, clocks + 1, byte),
-            address: address,
-            line: line,
-        };
-    }
+    let at = address as usize;
+    let turned = send(Side::Memory, memory[at], clocks, byte, high);
     if clocks == 7 {
-        let line = sending_line(byte, 7, high);
-        let next = next_address(size, address);
-        return Moved {
-            phase: sending(Side::Memory, 8, byte),
-            address: next,
-            line: line,
-        };
+        return turned.with_address(next_address(size, address));
     }
-    let phase = sending(Side::Memory, 0, 0);
-    Moved {
-        phase: go_on(high, phase),
-        address: address,
-        line: high,
-    }
+    turned.with_address(address)
 }

@@ -4,14 +4,16 @@
 //
 // bits      one byte, bit by bit, high bit first
 // between   how a transfer goes on or ends between two bytes
-// slave     the slave byte: whom it names, and the phase it opens
+// nine      the nine clocks of a byte from the master, and of a byte to it
+// slave     the slave byte: whom it names, and the phase it opens; the first address byte
 // address   memory addresses, and the byte that takes one
 // storing   data bytes for the memory, and its protection
 // fetching  data bytes from the memory
 pub mod address;
-pub mod between;
+mod between;
 pub mod bits;
 pub mod fetching;
+pub mod nine;
 pub mod slave;
 pub mod storing;
 

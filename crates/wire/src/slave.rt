@@ -4,14 +4,15 @@
 ghost use mathlib.Core.Path.{_≡_};
 ghost use Rattle.wire.specs.Slave.{slaveNames, answers, opened};
 ghost use Rattle.wire.specs.Clock.{received};
-ghost use Rattle.wire.specs.Kinds.{slaveByte, highByte};
+ghost use Rattle.wire.specs.Kinds.{highByte};
 ghost use Rattle.wire.specs.Outcome.{turnedOf};
 use crate::Named;
 use crate::Phase;
 use crate::Side;
 use crate::Turned;
-use crate::between::keep;
 use crate::bits::push;
+use crate::nine::count;
+use crate::nine::receive;
 
 // Whom a slave byte names: 1010 000x the memory, 1101 000x the companion; x = 1 reads.
 pub fn slave_names(byte: u8) -> Named
@@ -38,7 +39,7 @@ pub fn answers(named: Named) -> bool
 }
 
 // The phase after the acknowledge of a slave byte that names so.
-fn opened(named: Named) -> Phase
+pub fn opened(named: Named) -> Phase
     ensures { λ r. ⌜ r ≡ opened named ⌝ }
 {
     match named {
@@ -55,58 +56,18 @@ fn opened(named: Named) -> Phase
     }
 }
 
-// A Clock in a slave byte.
-pub fn slave_clock(clocks: u8, byte: u8, high: bool) -> Turned
-    ensures { λ r. ⌜ r ≡ turnedOf (received (slaveByte slaveNames) tt clocks byte high) ⌝ }
-{
-    if clocks < 7 {
-        return Turned {
-            phase: Phase::Slave {
-                clocks: clocks + 1,
-                byte: push(byte, high),
-            },
-            line: high,
-        };
-    }
-    if clocks == 7 {
-        let whole = push(byte, high);
-        let acknowledged = answers(slave_names(whole));
-        return Turned {
-            phase: keep(
-                acknowledged,
-                Phase::Slave {
-                    clocks: 8,
-                    byte: whole,
-                },
-            ),
-            line: high,
-        };
-    }
-    Turned {
-        phase: opened(slave_names(byte)),
-        line: false,
-    }
-}
-
 // A Clock in the first address byte of a memory write.
 pub fn high_clock(clocks: u8, byte: u8, high: bool) -> Turned
     ensures { λ r. ⌜ r ≡ turnedOf (received highByte tt clocks byte high) ⌝ }
 {
-    if clocks < 8 {
-        return Turned {
-            phase: Phase::AddressHigh {
-                clocks: clocks + 1,
-                byte: push(byte, high),
-            },
-            line: high,
-        };
-    }
-    Turned {
-        phase: Phase::AddressLow {
-            high: byte,
-            clocks: 0,
-            byte: 0,
-        },
-        line: false,
-    }
+    let next = Phase::AddressHigh {
+        clocks: count(clocks),
+        byte: push(byte, high),
+    };
+    let after = Phase::AddressLow {
+        high: byte,
+        clocks: 0,
+        byte: 0,
+    };
+    receive(clocks, high, next, true, after)
 }

@@ -13,8 +13,9 @@ use crate::Phase;
 use crate::Put;
 use crate::Side;
 use crate::address::next_address;
-use crate::between::keep;
 use crate::bits::push;
+use crate::nine::count;
+use crate::nine::receive;
 
 // The first address that the protection bits WP1 WP0, as a number, leave free.
 fn protected_below(size: u16, guard: u8) -> u16
@@ -76,39 +77,22 @@ pub fn put_clock(
     requires { ⌜ (length (now memory) ≡ size) × (address < size) ⌝ }
     ensures { λ r. ⌜ MovedWith r (now (memory .exit)) (received (memoryByte (putByte size guard)) (lent (now (memory .entry)) address) clocks byte high) ⌝ }
 {
-    if clocks < 7 {
-        let phase = Phase::Write {
-            side: Side::Memory,
-            clocks: clocks + 1,
-            byte: push(byte, high),
-        };
-        return Moved {
-            phase: phase,
-            address: address,
-            line: high,
-        };
-    }
+    let whole = push(byte, high);
+    let next = Phase::Write {
+        side: Side::Memory,
+        clocks: count(clocks),
+        byte: whole,
+    };
+    let after = Phase::Write {
+        side: Side::Memory,
+        clocks: 0,
+        byte: 0,
+    };
     if clocks == 7 {
-        let whole = push(byte, high);
         let done = put(memory, size, guard, address, whole);
-        let phase = Phase::Write {
-            side: Side::Memory,
-            clocks: 8,
-            byte: whole,
-        };
-        return Moved {
-            phase: keep(done.acknowledged, phase),
-            address: done.address,
-            line: high,
-        };
+        let turned = receive(clocks, high, next, done.acknowledged, after);
+        return turned.with_address(done.address);
     }
-    Moved {
-        phase: Phase::Write {
-            side: Side::Memory,
-            clocks: 0,
-            byte: 0,
-        },
-        address: address,
-        line: false,
-    }
+    let turned = receive(clocks, high, next, true, after);
+    turned.with_address(address)
 }

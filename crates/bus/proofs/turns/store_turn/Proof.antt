@@ -1,33 +1,28 @@
 -- SPDX-License-Identifier: Apache-2.0
 -- A data byte for the companion, clock by clock, given the companion's acknowledge.
 -- Assumes nothing.
+use mathlib.Core.Path.{refl}
 use borrow.Author.Needs.{needs}
-use Rattle.wire.proofs.Clock.{received-inside, received-last, received-ack}
+use Rattle.wire.specs.Kinds.{companionByte}
+use Rattle.wire.proofs.Handed.{received-seen}
+use Rattle.bus.specs.Desk.{replied}
 use Rattle.bus.proofs.turns.store_turn.Statement.{statement}
 use Rattle.bus.proofs.turns.store_turn.Tie as tie
 
-add-t10 : tie.Need-add-t10
-add-t10 c = search needs
+count-requires : tie.Need-count-requires
+count-requires c κs = search needs
 
 push-requires : tie.Need-push-requires
 push-requires c κs = search needs
 
+receive-requires : tie.Need-receive-requires
+receive-requires c κs = search needs
+
 returns : tie.Need-returns
-returns c = rw (received-inside _ _ _ _ _ (c .before .if1 .taken), c .push .ensures)
-
-push-requires-2 : tie.Need-push-requires-2
-push-requires-2 c κs = search needs
-
-keep-requires : tie.Need-keep-requires
-keep-requires c κs = search needs
-
-returns-2 : tie.Need-returns-2
-returns-2 c = rw (received-last _ _ _ _ _ (c .before .before .if2 .taken), c .keep .ensures, c .before .push2 .ensures)
-
-returns-3 : tie.Need-returns-3
-returns-3 c = rw (received-ack _ _ _ _ _ (c .before .if1 .left) (c .if2 .left))
+returns c =
+    let a = c .before .before .before .args in
+    rw (c .receive .ensures (a .byte), c .before .push .ensures, c .before .before .count .ensures)
+    (received-seen (companionByte (λ u b. replied (a .reply))) tt (a .clocks) (a .byte) (a .high) _ (λ e. refl))
 
 pub store-turn-spec : {M : Type 1} → statement M
-store-turn-spec =
-    tie.close
-    (tie.spec add-t10 push-requires returns push-requires-2 keep-requires returns-2 returns-3)
+store-turn-spec = tie.close (tie.spec count-requires push-requires receive-requires returns)

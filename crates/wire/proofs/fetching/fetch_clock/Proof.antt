@@ -1,72 +1,61 @@
 -- SPDX-License-Identifier: Apache-2.0
--- A clock of a data byte to the master: its first, one of the next six, its eighth, the master's ninth.
+-- A clock of a data byte to the master: its eighth, at which the address steps on, and any other.
 -- Assumes nothing.
+use denote.Ref.{now}
 use borrow.Author.Needs.{needs}
-use Rattle.wire.proofs.Clock.{sent-first, sent-within, sent-last, sent-ack}
+use Rattle.wire.specs.Clock.{sent}
+use Rattle.wire.specs.Kinds.{memoryRead}
+use Rattle.wire.specs.Memory.{lent, byteAt, steppedOn}
+use Rattle.wire.specs.declared.Side.the-variants.{Memory}
+use Rattle.wire.proofs.Handed.{moved-by, sent-seen, sent-eighth, sent-elsewhere}
 use Rattle.wire.proofs.fetching.fetch_clock.Statement.{statement}
 use Rattle.wire.proofs.fetching.fetch_clock.Tie as tie
 
-shared-slice-read-fixed : tie.Need-shared-slice-read-fixed
-shared-slice-read-fixed c = search needs
+shared-slice-read-send : tie.Need-shared-slice-read-send
+shared-slice-read-send c = search needs
 
-sending-line-requires : tie.Need-sending-line-requires
-sending-line-requires c κs = search needs
-
-sending-requires : tie.Need-sending-requires
-sending-requires c κs = search needs
-
-returns : tie.Need-returns
-returns c = rw (sent-first _ _ _ _ _ (c .before .before .before .if1 .taken), c .sending .ensures, c .before .sending-line .ensures)
-
-sending-line-requires-2 : tie.Need-sending-line-requires-2
-sending-line-requires-2 c κs = search needs
-
-add-sending : tie.Need-add-sending
-add-sending c = search needs
-
-sending-requires-2 : tie.Need-sending-requires-2
-sending-requires-2 c κs = search needs
-
-returns-2 : tie.Need-returns-2
-returns-2 c = rw (sent-within _ _ _ _ _ (c .before .before .before .if1 .left) (c .before .before .if2 .taken), c .sending2 .ensures, c .before .sending-line2 .ensures)
-
-sending-line-requires-3 : tie.Need-sending-line-requires-3
-sending-line-requires-3 c κs = search needs
+send-requires : tie.Need-send-requires
+send-requires c κs = search needs
 
 next-address-requires : tie.Need-next-address-requires
 next-address-requires c κs = search needs
 
-sending-requires-3 : tie.Need-sending-requires-3
-sending-requires-3 c κs = search needs
+with-address-requires : tie.Need-with-address-requires
+with-address-requires c κs = search needs
 
-returns-3 : tie.Need-returns-3
-returns-3 c = rw (sent-last _ _ _ _ _ (c .before .before .before .if3 .taken), c .sending3 .ensures, c .before .before .sending-line3 .ensures, c .before .next-address .ensures)
+returns : tie.Need-returns
+returns c =
+    let n = c .before .before .before in
+    let a = n .before .before .before .args in
+    rw (c .with-address .ensures, c .before .next-address .ensures, n .send .ensures)
+    (moved-by
+    (sent (memoryRead byteAt (steppedOn (a .size))) (lent (now (a .memory)) (a .address)) (a .clocks) (a .byte) (a .high))
+    (sent-seen Memory byteAt (λ m b. steppedOn (a .size) m) (lent (now (a .memory)) (a .address)) _ _ _)
+    (sent-eighth Memory byteAt (λ m b. steppedOn (a .size) m) (lent (now (a .memory)) (a .address)) _ _ _
+    (c .before .before .if1 .taken)))
 
-sending-requires-4 : tie.Need-sending-requires-4
-sending-requires-4 c κs = search needs
+with-address-requires-2 : tie.Need-with-address-requires-2
+with-address-requires-2 c κs = search needs
 
-go-on-requires : tie.Need-go-on-requires
-go-on-requires c κs = search needs
-
-returns-4 : tie.Need-returns-4
-returns-4 c = rw (sent-ack _ _ _ _ _ (c .before .before .before .if2 .left) (c .before .before .if3 .left), c .go-on .ensures, c .before .sending4 .ensures)
+returns-2 : tie.Need-returns-2
+returns-2 c =
+    let n = c .before .before in
+    let a = n .before .before .before .args in
+    rw (c .with-address2 .ensures, n .send .ensures)
+    (moved-by
+    (sent (memoryRead byteAt (steppedOn (a .size))) (lent (now (a .memory)) (a .address)) (a .clocks) (a .byte) (a .high))
+    (sent-seen Memory byteAt (λ m b. steppedOn (a .size) m) (lent (now (a .memory)) (a .address)) _ _ _)
+    (sent-elsewhere Memory byteAt (λ m b. steppedOn (a .size) m) (lent (now (a .memory)) (a .address)) _ _ _
+    (c .before .if1 .left)))
 
 pub fetch-clock-spec : {M : Type 1} → statement M
 fetch-clock-spec =
     tie.close
     (tie.spec
-    shared-slice-read-fixed
-    sending-line-requires
-    sending-requires
-    returns
-    sending-line-requires-2
-    add-sending
-    sending-requires-2
-    returns-2
-    sending-line-requires-3
+    shared-slice-read-send
+    send-requires
     next-address-requires
-    sending-requires-3
-    returns-3
-    sending-requires-4
-    go-on-requires
-    returns-4)
+    with-address-requires
+    returns
+    with-address-requires-2
+    returns-2)
