@@ -16,7 +16,7 @@ from . import event
 from ._bus import COMPANION_ADDRESS, MEMORY_ADDRESS
 from ._notation import ScriptError
 from ._refused import NotAcknowledged, Refused
-from ._script import Happening, Played, script
+from ._script import Happening, Played, Unmet, script
 from .capture import Verdict, capture_file, judge
 from .device import Change, Device, mend
 from .family import Fm3164, Fm31256, Set
@@ -40,6 +40,7 @@ __all__ = [
     "SMBus",
     "ScriptError",
     "Set",
+    "Unmet",
     "Verdict",
     "capture_file",
     "event",

@@ -12,10 +12,18 @@ _REPEAT = re.compile(r"[:*]([0-9A-Za-z_]*)")
 _BYTE = re.compile(r"0[xX][0-9A-Fa-f]{1,2}|[0-9A-Fa-f]{2}")
 _CLOCKS = re.compile(r"\{[01\s,]*[01][01\s,]*\}")
 _EDGE = re.compile(r"c[12](@[0-3])?")
+_EXPECTED_BYTE = re.compile(rf"(r[+-]?|R)=({_BYTE.pattern})")
+_ACKNOWLEDGED = re.compile(rf"({_BYTE.pattern})([+-])")
+
+# The states of the ACS pin that a script can expect, as bits 1 to 3 of an answer byte have them.
+PINS = {"low": 5, "high": 1, "released": 0, "square": 2, "calibration": 3}
 
 WORDS = ("[", "]", "r", "r+", "R", "r-", "t", "lost", "gone", "power")
 READS = ("r", "r+", "R", "r-")
-KNOWN = "known: [ ] r r+ R r- t lost gone power, edges as c1 or c1@2, bytes as A0 or 0xA0, clocks as {0110}"
+KNOWN = (
+    "known: [ ] r r+ R r- t lost gone power, edges as c1 or c1@2, bytes as A0 or 0xA0, clocks as {0110}, "
+    "expectations as r=5A A0+ A0- pin=low"
+)
 
 
 class ScriptError(ValueError):
@@ -36,13 +44,26 @@ class ScriptError(ValueError):
 ScriptError.__module__ = "fm3130"
 
 
+class Expected(NamedTuple):
+    """What a script expects of a byte or of the pin; None for what it does not."""
+
+    byte: Optional[int] = None
+    acknowledged: Optional[bool] = None
+    pin: Optional[int] = None
+
+
 class Item(NamedTuple):
-    """One thing that a script asks for, how often, and where it stands."""
+    """One thing that a script asks for, how often, where it stands, and what is expected of it.
+
+    The word is without the expectation, and "pin" where the pin is looked at.
+    """
 
     word: str
     times: int
     line: int
     column: int
+    expected: Expected = Expected()
+    text: str = ""
 
     @property
     def byte(self) -> Optional[int]:
@@ -77,15 +98,30 @@ def _item(line: str, number: int, place: int) -> "tuple[Item, int]":
     action = _ACTION.match(line, place)
     if action is None:
         raise ScriptError(number, place + 1, f"{line[place]} stands alone")
-    word = action.group()
-    if not _is_known(word):
-        raise ScriptError(number, place + 1, f"unknown word {word}; {KNOWN}")
+    word, expected = _parted(action.group())
+    if not _is_known(word) and expected.pin is None:
+        raise ScriptError(number, place + 1, f"unknown word {action.group()}; {KNOWN}")
     repeat = _REPEAT.match(line, action.end())
     end = repeat.end() if repeat else action.end()
     times = _times(repeat.group(1)) if repeat else 1
     if times is None:
         raise ScriptError(number, action.end() + 1, f"a repeat is a decimal number from 1 to {MOST_TIMES}")
-    return Item(word, times, number, place + 1), end
+    if word == "pin" and repeat:
+        raise ScriptError(number, place + 1, "the pin is looked at once")
+    return Item(word, times, number, place + 1, expected, action.group()), end
+
+
+def _parted(word: str) -> "tuple[str, Expected]":
+    """A word without what it expects, and what it expects."""
+    byte = _EXPECTED_BYTE.fullmatch(word)
+    if byte:
+        return byte.group(1), Expected(byte=int(byte.group(2), 16))
+    acknowledged = _ACKNOWLEDGED.fullmatch(word)
+    if acknowledged and not _EDGE.fullmatch(acknowledged.group(1)):
+        return acknowledged.group(1), Expected(acknowledged=acknowledged.group(2) == "+")
+    if word.startswith("pin=") and word[4:] in PINS:
+        return "pin", Expected(pin=PINS[word[4:]])
+    return word, Expected()
 
 
 def _is_known(word: str) -> bool:

@@ -1,10 +1,10 @@
 # SPDX-License-Identifier: Apache-2.0
 """Bus scripts, by docs/SCRIPTS.md: played on a device, and what happened in words."""
 
-from typing import List, NamedTuple, Optional, Sequence, Union
+from typing import List, NamedTuple, Optional, Sequence, Tuple, Union
 
 from . import _image, _words, event
-from ._notation import READS, Item, ScriptError, items_of
+from ._notation import PINS, READS, Item, ScriptError, items_of
 from .device import Device
 from .family import Part, Set
 
@@ -59,8 +59,27 @@ class Played:
         return "\n".join(map(str, self.happenings))
 
 
+class Unmet(AssertionError):
+    """A script was played, and something did not come about that it expects: `places` has line and column of each.
+
+    >>> import fm3130
+    >>> fm3130.script("[ A0 01 23 [ A1 r=5A ]")
+    Traceback (most recent call last):
+    fm3130.Unmet: 1:17: r=5A: expected 5Ah, seen 00h
+    """
+
+    def __init__(self, unmet: List[Tuple[Item, str]], played: Played) -> None:
+        super().__init__("\n".join(f"{item.line}:{item.column}: {item.text}: {words}" for item, words in unmet))
+        self.places = [(item.line, item.column) for item, _ in unmet]
+        self.played = played
+
+
+Unmet.__module__ = "fm3130"
+
+
 def script(text: str, device: Union[Device, Part, Set, None] = None) -> Played:
-    """Plays a script on a device, a fresh FM3130 if none is given. Raises `ScriptError` before anything is played.
+    """Plays a script on a device, a fresh FM3130 if none is given. Raises `ScriptError` before anything is played, and `Unmet`
+    after all is played where something did not come about that it expects.
 
     >>> import fm3130
     >>> print(fm3130.script("[ A0 01 23 5A ]"))
@@ -72,6 +91,8 @@ def script(text: str, device: Union[Device, Part, Set, None] = None) -> Played:
     ]       Stop
     >>> fm3130.script("[ D0 05 [ D1 r:3 ]").read.hex(" ")
     '01 01 01'
+    >>> fm3130.script("[ A0+ 01 23 5A+ ] [ A0 01 23 [ A1 r=5A ]").read.hex()
+    '5a'
     """
     items = items_of(text)
     target = Device() if device is None else device
@@ -80,7 +101,10 @@ def script(text: str, device: Union[Device, Part, Set, None] = None) -> Played:
     player = _Player(target)
     for place, item in enumerate(items):
         player.play(item, items[place + 1 :])
-    return Played(target, player.happenings)
+    played = Played(target, player.happenings)
+    if player.unmet:
+        raise Unmet(player.unmet, played)
+    return played
 
 
 def _check(item: Item, device: Union[Device, Part, Set]) -> None:
@@ -89,6 +113,8 @@ def _check(item: Item, device: Union[Device, Part, Set]) -> None:
         problem = _problem_of_edge(item.word, device)
         if problem:
             raise ScriptError(item.line, item.column, problem)
+    if item.expected.pin is not None and not isinstance(device, Device):
+        raise ScriptError(item.line, item.column, f"{item.text}: there is no ACS pin")
     if item.word != "t" and item.times > _MOST_EVENTS:
         raise ScriptError(item.line, item.column, f"{item.times} times are too many here; the command fm3130 plays them")
 
@@ -110,6 +136,18 @@ def _next_ends(following: Sequence[Item]) -> bool:
     return on_the_bus in (["["], ["]"])
 
 
+def _unlike(item: Item, told: Happening) -> str:
+    """How a byte is not as expected; empty where it is. What nobody sends is no byte that was read."""
+    byte, acknowledged = item.expected.byte, item.expected.acknowledged
+    if byte is not None and not told.is_read:
+        return f"expected {byte:02X}h, and nobody sends"
+    if byte is not None and told.byte != byte:
+        return f"expected {byte:02X}h, seen {told.byte:02X}h"
+    if acknowledged is not None and bool(told.acknowledged) != acknowledged:
+        return "expected an acknowledge, seen none" if acknowledged else "expected no acknowledge, seen one"
+    return ""
+
+
 def _braces(clocks: Sequence[int]) -> str:
     """Clocks as a script writes them."""
     return "{" + "".join("1" if one == event.CLOCK_HIGH else "0" for one in clocks) + "}"
@@ -121,14 +159,18 @@ class _Player:
     def __init__(self, device: Union[Device, Part, Set]) -> None:
         self.device = device
         self.happenings: List[Happening] = []
+        self.unmet: List[Tuple[Item, str]] = []
         self.is_started = self._heard()[_image.PHASE] != _image.IDLE
 
     def play(self, item: Item, following: Sequence[Item]) -> None:
         """Plays an item; those after it say whether a plain r goes on."""
-        if item.word in READS:
+        if item.expected.pin is not None:
+            self._look(item, item.expected.pin)
+        elif item.word in READS:
             for left in range(item.times, 0, -1):
                 goes_on = item.word == "r+" or item.word == "r" and not (left == 1 and _next_ends(following))
                 self._byte(event.read_byte(goes_on))
+                self._hold(item)
         elif item.word == "t":
             self._ticks(item.times)
         elif item.word.startswith(("c1", "c2")):
@@ -136,6 +178,24 @@ class _Player:
         else:
             for _ in range(item.times):
                 self._one(item)
+                self._hold(item)
+
+    def _hold(self, item: Item) -> None:
+        """Notes how the byte that was just told is not as expected; of a repeated one the first time."""
+        words = _unlike(item, self.happenings[-1])
+        if words and not (self.unmet and self.unmet[-1][0] is item):
+            self.unmet.append((item, words))
+
+    def _look(self, item: Item, expected: int) -> None:
+        """Looks at the ACS pin: an event that changes nothing, on a copy, has it in its answer."""
+        device = self.device
+        assert isinstance(device, Device)
+        nothing = (event.POWER_RETURNED, event.POWER_LOST_WITH_BACKUP, event.POWER_LOST_WITHOUT_BACKUP)
+        copy = Device(device.image, bytes(device.memory))
+        seen = copy.run([nothing[device.image[_image.SUPPLIES]]])[0] >> 1 & 7
+        if seen != expected:
+            names = {state: name for name, state in PINS.items()}
+            self.unmet.append((item, f"expected pin={names[expected]}, seen pin={names[seen]}"))
 
     def _one(self, item: Item) -> None:
         if item.word == "[":

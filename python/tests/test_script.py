@@ -7,7 +7,7 @@ import subprocess
 
 import pytest
 
-from fm3130 import Device, Fm3164, Fm31256, ScriptError, Set, event, script
+from fm3130 import Device, Fm3164, Fm31256, ScriptError, Set, Unmet, event, script
 
 TOP = pathlib.Path(__file__).resolve().parents[2]
 
@@ -209,3 +209,42 @@ def test_the_clocks_of_a_byte():
     with pytest.raises(ValueError):
         event.written_byte(256)
     assert not event.is_acknowledged(b"\x00" * 8)
+
+
+def test_expectations_that_are_met():
+    text = "[ A0+ 01+ 23+ 5A+ ] [ A0 01 23 [ A1 r=5A R=00 ] [ A2- ] pin=square [ D0 00 04 ] pin=calibration gone pin=released"
+    assert script(text).read == b"\x5a\x00"
+    assert script("[ D0 0D [ D1 r=00:3 ]", Fm3164()).read == bytes(3)
+
+
+@pytest.mark.parametrize(
+    "text, place, words",
+    [
+        ("[ A0 00 00 [ A1 r=5A ]", (1, 17), "expected 5Ah, seen 00h"),
+        ("[ A2\n r=FF ]", (2, 2), "nobody sends"),
+        ("[ A0 00 [ A1 {1} r=FF ]", (1, 18), "nobody sends"),
+        ("[ A2+ ]", (1, 3), "expected an acknowledge, seen none"),
+        ("[ A0- ]", (1, 3), "expected no acknowledge, seen one"),
+        ("[ A2 {111111110} ] A0+", (1, 20), "expected an acknowledge, seen none"),
+        ("t pin=low", (1, 3), "expected pin=low, seen pin=square"),
+    ],
+)
+def test_expectations_that_are_not_met(text, place, words):
+    with pytest.raises(Unmet, match=words) as caught:
+        script(text)
+    assert caught.value.places == [place]
+    assert caught.value.played.happenings
+
+
+def test_a_repeated_expectation_is_told_once():
+    with pytest.raises(Unmet) as caught:
+        script("[ A1 r=01:20 r=02 ]")
+    assert caught.value.places == [(1, 6), (1, 14)]
+
+
+@pytest.mark.parametrize("text", ["r=5", "A0=5A", "pin=up", "pin=low:2", "t+", "c1+", "A0++"])
+def test_expectations_that_are_none(text):
+    with pytest.raises(ScriptError):
+        script(text)
+    with pytest.raises(ScriptError):
+        script("pin=low", Fm3164())
