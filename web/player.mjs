@@ -4,6 +4,7 @@
  * end. Events can also be done by hand between those of the script. A device that refuses an event is thrown as
  * Refused.
  */
+import { Holding } from './expecting.mjs';
 import { event, MOST_TICKS, RECORD_BYTES } from './fm3130.mjs';
 import { Grouping } from './happenings.mjs';
 import { isSamePin, pinOf, stateOf } from './state.mjs';
@@ -60,6 +61,12 @@ export class Player {
   rewind() {
     this.step = 0; // of the plan
     this.given = 0; // events of that step
+    this.holding = new Holding();
+  }
+
+  /** What the script expects and did not come about, as problems with their places. */
+  get unmet() {
+    return this.holding.unmet;
   }
 
   get isAtStart() {
@@ -91,19 +98,33 @@ export class Player {
 
   /** Does the script's next event; false at its end. */
   nextEvent() {
+    this.#look();
     if (this.isAtEnd) {
       return false;
     }
-    const { events } = this.plan[this.step];
-    this.#event(events[this.given % events.length]);
+    const step = this.plan[this.step];
+    const before = step.expected && this.state;
+    const answer = this.#event(step.events[this.given % step.events.length]);
+    if (step.expected) {
+      this.holding.take(step, this.given, before, answer);
+    }
     this.#advance(1);
     return true;
+  }
+
+  /** Looks at the pin where the script does so next. */
+  #look() {
+    while (this.plan[this.step]?.events.length === 0) {
+      this.holding.look(this.plan[this.step], pinOf(this.state));
+      this.step += 1;
+    }
   }
 
   /** Does events of the script up to the next whole byte, Start, Stop, tick or power event; false at its end. */
   nextByte() {
     const told = this.happenings.length;
     let isTick = false;
+    this.#look();
     while (!this.isAtEnd && this.happenings.length === told && !isTick) {
       const { events } = this.plan[this.step];
       isTick = events[this.given % events.length] === event.TICK;
@@ -114,6 +135,7 @@ export class Player {
 
   /** Does the script's next events, some thousand at most; false at its end. So a long run can be stopped. */
   someEvents() {
+    this.#look();
     for (let budget = 4096; budget > 0 && !this.isAtEnd; budget -= 1) {
       if (this.#isAtTicks()) {
         this.#ticks();
@@ -140,15 +162,18 @@ export class Player {
   }
 
   #event(one) {
+    let answer = 1; // nobody pulls: the answer to a tick is not asked for
     if (one === event.TICK) {
       this.#oneTick();
     } else {
       const before = this.state;
       const { answers, report } = done(this.device.lamps(this.record, [one]));
+      [answer] = answers;
       this.lamps = report;
-      this.grouping.moment({ event: one, answer: answers[0], before, after: this.state, lamps: report });
+      this.grouping.moment({ event: one, answer, before, after: this.state, lamps: report });
     }
     this.done += 1;
+    return answer;
   }
 
   #oneTick() {
@@ -173,6 +198,7 @@ export class Player {
     if (this.given >= events.length * times) {
       this.step += 1;
       this.given = 0;
+      this.#look();
     }
   }
 }

@@ -4,11 +4,25 @@
  * a problem with its place, shown as the command shows it.
  */
 import { clock, event, readByte, writtenByte } from './fm3130.mjs';
+import { pinFunction } from './state.mjs';
 
 /** The greatest repeat: a century has 3,155,760,000 seconds. */
 const MOST_TIMES = 4294967295;
 
-const KNOWN_WORDS = 'known: [ ] r r+ R r- t lost gone power, bytes as A0 or 0xA0, clocks as {0110}';
+const KNOWN_WORDS = 'known: [ ] r r+ R r- t lost gone power, bytes as A0 or 0xA0, clocks as {0110}, '
+  + 'expectations as r=5A A0+ A0- pin=low';
+
+/** Words of more than a letter, one of which a typo may have been. */
+const LONG_WORDS = ['lost', 'gone', 'power'];
+
+/** The states of the ACS pin that a script can expect: their words, and the function and the alarm of state.mjs. */
+const PINS = new Map([
+  ['low', { function: pinFunction.ALARM, alarm: true }],
+  ['high', { function: pinFunction.ALARM, alarm: false }],
+  ['released', { function: pinFunction.RELEASED, alarm: false }],
+  ['square', { function: pinFunction.SQUARE_WAVE, alarm: false }],
+  ['calibration', { function: pinFunction.CALIBRATION, alarm: false }],
+]);
 
 /** Words for parts with counters, which the page does not play; as bytes they would be read by accident. */
 const EDGES = ['c1', 'c2'];
@@ -75,9 +89,21 @@ class Line {
   items() {
     const items = [];
     while (this.#skipToItem()) {
+      this.#mustBeOfOneMaster();
       items.push(this.#item());
     }
     return items;
+  }
+
+  /** Refuses a turn of two masters, a: or b:, which the page does not play. */
+  #mustBeOfOneMaster() {
+    const begin = this.next;
+    const [master, colon, digit] = this.signs.slice(begin, begin + 3);
+    if ((master === 'a' || master === 'b') && colon === ':' && !/^[0-9]$/.test(digit ?? '')) {
+      this.next += 2;
+      throw new Problem(this.#since(begin), 'this begins a turn of two masters',
+        '`fm3130 share` plays a script of two masters');
+    }
   }
 
   #peek() {
@@ -107,7 +133,11 @@ class Line {
   #item() {
     const begin = this.next;
     const action = this.#action();
+    const end = this.next;
     const times = this.#times();
+    if (action.kind === 'look' && this.next !== end) {
+      throw new Problem(this.#since(begin), 'the pin is looked at once');
+    }
     return { ...action, times, place: this.#since(begin) };
   }
 
@@ -167,12 +197,15 @@ class Line {
     }
     const word = this.signs.slice(begin, this.next).join('');
     const wrong = (message, advice) => new Problem(this.#since(begin), message, advice);
-    if (EDGES.includes(word)) {
-      const [pin, byte] = [word.replace('c', 'CNT'), word.toUpperCase()];
-      throw wrong(`${word} is an edge on ${pin}, and the FM3130 has no counters`,
-        `write ${byte} or 0x${byte} for the byte; fm3130 run --part fm3164 has counters`);
+    if (word.includes('=')) {
+      return expectation(word, wrong);
     }
-    return ACTIONS.get(word) ?? { kind: 'write', events: writtenByte(byteOf(word, wrong)) };
+    // `r+` and `r-` say what the master does, and `A0+` and `A0-` what the device is to do.
+    const [, byte, sign] = /^(.*)([+-])$/s.exec(word) ?? [];
+    if (byte !== undefined && isByte(byte) && !EDGES.includes(byte)) {
+      return { ...actionOf(byte, wrong), expected: { acknowledge: sign === '+' } };
+    }
+    return actionOf(word, wrong);
   }
 
   /** The repeat right after an action, or 1. */
@@ -195,6 +228,65 @@ class Line {
   }
 }
 
+/** What a word asks for; throws what is wrong with it. */
+function actionOf(word, wrong) {
+  if (EDGES.includes(word)) {
+    const [pin, byte] = [word.replace('c', 'CNT'), word.toUpperCase()];
+    throw wrong(`${word} is an edge on ${pin}, and the FM3130 has no counters`,
+      `write ${byte} or 0x${byte} for the byte; fm3130 run --part fm3164 has counters`);
+  }
+  return ACTIONS.get(word) ?? { kind: 'write', events: writtenByte(byteOf(word, wrong)) };
+}
+
+/** `r=5A` and `pin=low`; throws what is wrong with it. */
+function expectation(word, wrong) {
+  const [left, right] = [word.slice(0, word.indexOf('=')), word.slice(word.indexOf('=') + 1)];
+  const action = ACTIONS.get(left);
+  if (left === 'pin') {
+    if (!PINS.has(right)) {
+      throw wrong(`${word} is no state of the pin`,
+        'write pin=low, pin=high, pin=released, pin=square or pin=calibration');
+    }
+    return { kind: 'look', events: [], expected: { pin: PINS.get(right) } };
+  }
+  if (action?.kind !== 'read') {
+    throw wrong(`${word}: of this no value is expected`,
+      'write r=5A for a byte that is read, A0+ or A0- for one that is written, or pin=low');
+  }
+  if (!isByte(right)) {
+    throw wrong(`${word} expects no byte`, 'write r=5A, with two hexadecimal digits');
+  }
+  return { ...action, expected: { byte: byteOf(right, wrong) } };
+}
+
+const isByte = (word) => /^(0[xX][0-9A-Fa-f]{1,2}|[0-9A-Fa-f]{2})$/.test(word);
+
+/**
+ * The known word that is nearest to one, if it is near: a letter changed, left out, put in or changed places with its
+ * neighbour, one for every three letters.
+ */
+function nearest(word, known) {
+  const most = Math.max(Math.floor([...word].length / 3), 1);
+  const near = known.map((one) => ({ one, far: distance([...word], [...one]) })).filter(({ far }) => far <= most);
+  return near.sort((one, other) => one.far - other.far)[0]?.one;
+}
+
+/** How many single changes make one word the other. */
+function distance(one, other) {
+  const rows = [Array.from({ length: other.length + 1 }, (_, index) => index)];
+  one.forEach((sign, i) => {
+    const row = [i + 1];
+    other.forEach((wanted, j) => {
+      const above = rows[i];
+      const isSwapped = i > 0 && j > 0 && sign === other[j - 1] && one[i - 1] === wanted;
+      row.push(Math.min(above[j] + (sign === wanted ? 0 : 1), above[j + 1] + 1, row[j] + 1,
+        isSwapped ? rows[i - 1][j - 1] + 1 : Infinity));
+    });
+    rows.push(row);
+  });
+  return rows[one.length][other.length];
+}
+
 /** The byte that a word writes; throws what is wrong with it. */
 function byteOf(word, wrong) {
   const isPrefixed = /^0[xX]/.test(word);
@@ -204,7 +296,8 @@ function byteOf(word, wrong) {
     throw wrong(`${word} is no byte`, 'write 0x and two hexadecimal digits');
   }
   if (!isNumber) {
-    throw wrong(`unknown word ${word}`, KNOWN_WORDS);
+    const near = nearest(word, LONG_WORDS);
+    throw wrong(`unknown word ${word}`, near === undefined ? KNOWN_WORDS : `perhaps ${near}; ${KNOWN_WORDS}`);
   }
   if (digits.length !== 2 && !(digits.length === 1 && isPrefixed)) {
     throw wrong(`${word} is not one byte`, 'a byte has two hexadecimal digits, and a blank stands between bytes');
@@ -212,19 +305,25 @@ function byteOf(word, wrong) {
   return Number.parseInt(digits, 16);
 }
 
-/** The steps of some items: events, how many times, and the place in the text. A repeat stays a number. */
+/**
+ * The steps of some items: events, how many times, the place in the text, and what is expected each time, with how many
+ * times before it and in all. A repeat stays a number. A step without events looks at the pin.
+ */
 export function planOf(items) {
   return items.flatMap((item, index) => {
     const { place, times } = item;
+    const step = (events, some, before) => ({
+      events, times: some, place, ...(item.expected && { expected: { ...item.expected, before, of: times } }),
+    });
     if (item.kind !== 'read') {
-      return [{ events: item.events, times, place }];
+      return [step(item.events, times, 0)];
     }
     const acknowledgesLast = acknowledgesLastOf(item.ninth, items, index);
     if (item.ninth !== ninth.BY_WHAT_FOLLOWS || acknowledgesLast) {
-      return [{ events: readByte(acknowledgesLast), times, place }];
+      return [step(readByte(acknowledgesLast), times, 0)];
     }
-    const last = { events: readByte(false), times: 1, place };
-    return times === 1 ? [last] : [{ events: readByte(true), times: times - 1, place }, last];
+    const last = step(readByte(false), 1, times - 1);
+    return times === 1 ? [last] : [step(readByte(true), times - 1, 0), last];
   });
 }
 
@@ -234,7 +333,7 @@ function acknowledgesLastOf(chosen, items, index) {
     return chosen === ninth.ACKNOWLEDGE;
   }
   let next = index + 1;
-  while (items[next]?.kind === 'aside') {
+  while (items[next]?.kind === 'aside' || items[next]?.kind === 'look') {
     next += 1;
   }
   return items[next]?.kind !== 'edge';

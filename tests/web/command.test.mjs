@@ -110,6 +110,34 @@ test('a script of another part is a clear error, as the command says it', () => 
   assert.equal(planOfText('C1 0xc1').length, 2);
 });
 
+/** What the command and the player say of expectations that are not met. */
+function unmetOf(folder, text) {
+  const path = folder.write('script.bus', text);
+  const { status, errors } = command('run', path, '--quiet');
+  const { unmet } = play(text, standIn.fresh());
+  const shown = unmet.slice(0, 10).map((one) => one.shownIn(path, text));
+  const more = unmet.length > 10 ? [`${path}: and ${unmet.length - 10} more`] : [];
+  return { status, errors, shown: unmet.length === 0 ? '' : `fm3130: ${[...shown, ...more].join('\n')}\n` };
+}
+
+test('expectations are held as the command holds them', () => {
+  const folder = new Folder();
+  for (const [name, text] of SCRIPTS) {
+    assert.deepEqual(unmetOf(folder, text), { status: 0, errors: '', shown: '' }, name);
+  }
+  const texts = [
+    '[ A0+ 01+ 23+ 5A+ ] [ A0 01 23 [ A1 r=5B ]', '[ A0- A2+ ]', '[ A2 r=FF ]', 'r=FF', '[ A1 r=00:4 r=01:3 r:2 ]',
+    'pin=low', 't pin=square pin=high t', '[ D0 00 04 ] pin=calibration\npin=released', '[ D0 09 30 80 80 80 80 ]\n'
+    + '[ D0 0E 80 ] [ D0 00 08 ] [ D0 01 00 ] t*29 pin=high t pin=low t*3 pin=high', '[ A1 {11} r=00 A0+ ]',
+    `pin=low [ A0 00 00 ${'FF- '.repeat(12)}]`, 'gone pin=released power pin=low',
+  ];
+  for (const text of texts) {
+    const { status, errors, shown } = unmetOf(folder, text);
+    assert.equal(shown, errors, text);
+    assert.equal(status, shown === '' ? 0 : 4, text);
+  }
+});
+
 test('wrong scripts have the same message, place and mark', () => {
   const folder = new Folder();
   let wrong = 0;

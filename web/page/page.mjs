@@ -25,6 +25,9 @@ const FIRST_SCRIPT = `# Write 5Ah to the memory at 0123h, and read it back.
 [ A0 01 23 [ A1 r ]
 `;
 
+/** The most expectations that are shown as not met. */
+const MOST_UNMET = 10;
+
 class Page {
   constructor(standIn) {
     this.standIn = standIn;
@@ -201,8 +204,9 @@ class Page {
     const isUnderWay = problem === null && !player.isAtStart;
     const place = problem === null ? (isUnderWay ? player.place : undefined) : problem.place;
     showPlace(at('backdrop'), linesOf(text), place, problem !== null);
-    at('problem').hidden = problem === null;
-    at('problem').textContent = problem === null ? '' : problem.shownIn(this.title, text);
+    const wrong = problem === null ? player.unmet.slice(0, MOST_UNMET) : [problem];
+    at('problem').hidden = wrong.length === 0;
+    at('problem').textContent = wrong.map((one) => one.shownIn(this.title, text)).join('\n');
     this.alignBackdrop();
   }
 

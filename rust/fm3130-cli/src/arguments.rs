@@ -9,6 +9,7 @@ use fm3130::family::{Select, Size};
 
 use crate::chip::Part;
 use crate::failure::{Failure, Outcome};
+use crate::nearest::nearest;
 
 /// The options that a command knows, with their dashes.
 pub struct Options {
@@ -76,7 +77,8 @@ impl Arguments {
             return Ok(());
         }
         let Some(option) = find(options.with_value, &name) else {
-            return Err(wrong(format!("unknown option {name}")));
+            let known = options.with_value.iter().chain(options.alone).copied();
+            return Err(wrong(unknown("option", &name, known)));
         };
         let value = match value.or_else(|| following.next()) {
             Some(value) if !value.is_empty() => value,
@@ -108,7 +110,7 @@ impl Arguments {
             [] => Ok(Part::Fm3130),
             [word] => part_of(word),
             _ => Err(wrong(
-                "--part is given twice; several parts are a set, which run and events alone know",
+                "--part is given twice; several parts are a set, which run, test and events alone know",
             )),
         }
     }
@@ -144,7 +146,7 @@ pub fn part_of(word: &OsStr) -> Outcome<Part> {
     let word = word.to_string_lossy();
     if is_of_a_set {
         return Err(wrong(format!(
-            "{word} has select bits: it is for a set, which run and events alone know"
+            "{word} has select bits: it is for a set, which run, test and events alone know"
         )));
     }
     Part::of_word(&word).ok_or_else(|| {
@@ -179,9 +181,21 @@ pub fn member_of(word: &OsStr) -> Outcome<(Size, Select)> {
     }
 }
 
+/// Says that a word is not known, and which one it may have been.
+pub fn unknown<'known>(
+    kind: &str,
+    word: &str,
+    known: impl IntoIterator<Item = &'known str>,
+) -> String {
+    match nearest(word, known) {
+        Some(near) => format!("unknown {kind} {word}; perhaps {near}"),
+        None => format!("unknown {kind} {word}"),
+    }
+}
+
 /// A wrong command line.
 pub fn wrong(words: impl Into<String>) -> Failure {
-    Failure::CommandLine(words.into())
+    Failure::CommandLine(words.into(), None)
 }
 
 fn starts_with_dash(word: &OsStr) -> bool {

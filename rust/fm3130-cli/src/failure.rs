@@ -12,15 +12,19 @@ use crate::chip::Refused;
 pub enum Failure {
     /// A file cannot be read or written, or standard output cannot be written.
     Files(String),
-    /// The command line is wrong.
-    CommandLine(String),
+    /// The command line is wrong, that of a command if one is known.
+    CommandLine(String, Option<&'static str>),
     /// A script or an event file is wrong, and the text shows the place; or a waveform cannot be judged.
     Script(String),
     /// An image or a memory is refused, by 01's numbers, a capture is malformed, or a trim setting is not
     /// accepted.
     Refused(String),
+    /// What a script expects of the device is not so; the text shows the place.
+    Unmet(String),
     /// A recorded answer is not the one that the rules give: the file is sound, and the part is not.
     Differs(String),
+    /// All was said already; the exit code is left.
+    Told(u8),
     /// Whoever read standard output went away, as `head` does; there is nobody to tell.
     ReaderGone,
 }
@@ -33,10 +37,19 @@ impl Failure {
     pub fn exit_code(&self) -> u8 {
         match self {
             Failure::Files(_) | Failure::ReaderGone => 1,
-            Failure::CommandLine(_) => 2,
+            Failure::CommandLine(..) => 2,
             Failure::Script(_) => 3,
-            Failure::Refused(_) => 4,
+            Failure::Refused(_) | Failure::Unmet(_) => 4,
             Failure::Differs(_) => 5,
+            Failure::Told(code) => *code,
+        }
+    }
+
+    /// The failure of a command, whose page tells how it is called.
+    pub fn in_command(self, command: &'static str) -> Failure {
+        match self {
+            Failure::CommandLine(words, None) => Failure::CommandLine(words, Some(command)),
+            other => other,
         }
     }
 
@@ -66,11 +79,15 @@ impl fmt::Display for Failure {
             Failure::Files(words)
             | Failure::Script(words)
             | Failure::Refused(words)
+            | Failure::Unmet(words)
             | Failure::Differs(words) => formatter.write_str(words),
-            Failure::CommandLine(words) => {
+            Failure::CommandLine(words, None) => {
                 write!(formatter, "{words}\ntry `fm3130 help`")
             }
-            Failure::ReaderGone => Ok(()),
+            Failure::CommandLine(words, Some(command)) => {
+                write!(formatter, "{words}\ntry `fm3130 help {command}`")
+            }
+            Failure::ReaderGone | Failure::Told(_) => Ok(()),
         }
     }
 }

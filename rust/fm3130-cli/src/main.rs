@@ -2,9 +2,9 @@
 //! The command `fm3130`: plays bus scripts on the proved stand-in, and shows what happened.
 //!
 //! * `commands`: one module a command, which reads its command line and does the work.
-//! * `script`: bus scripts, from text to events. `source`: events in chunks.
+//! * `script`: bus scripts, from text to events. `typing`: one that is typed. `source`: events in chunks.
 //! * `chip`: the parts that can be chosen, and a device of any of them.
-//! * `bus`: the device does the events; clocks become bytes with a meaning.
+//! * `bus`: the device does the events; clocks become bytes with a meaning. `expecting`: what a script expects of it.
 //! * `transcript`, `waveform`, `drawing`: what happened as text, VCD and SVG.
 //! * `listing`: event bytes back to a script. `words`: a device in words.
 //! * `mending`: what was put right in an image, in words.
@@ -12,10 +12,10 @@
 //! * `panel`: the lamps of the proving record beside what happened.
 //! * `sharing`: two masters in turns, as text and SVG.
 //! * `trimming`: what trim settings leave of an error, as text.
-//! * `amount`: how much is about to be written.
-//! * `files`, `output`, `progress`, `arguments`, `failure`: the world outside.
+//! * `amount`: how much is about to be written. `nearest`: the known word that a typo may have been.
+//! * `files`, `output`, `progress`, `arguments`, `failure`: the world outside. `interrupt`: what goes on Control-C.
 
-#![forbid(unsafe_code)]
+#![deny(unsafe_code)]
 
 mod amount;
 mod arguments;
@@ -23,10 +23,14 @@ mod bus;
 mod chip;
 mod commands;
 mod drawing;
+mod expecting;
 mod failure;
 mod files;
+#[allow(unsafe_code)]
+mod interrupt;
 mod listing;
 mod mending;
+mod nearest;
 mod output;
 mod panel;
 mod place;
@@ -37,6 +41,7 @@ mod sharing;
 mod source;
 mod transcript;
 mod trimming;
+mod typing;
 mod waveform;
 mod words;
 

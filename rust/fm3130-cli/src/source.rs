@@ -12,7 +12,7 @@ use fm3130::family::edge_2;
 use crate::amount::Tally;
 use crate::chip::Part;
 use crate::failure::{Failure, Outcome};
-use crate::script::Plan;
+use crate::script::{tally_of, total_of, Step};
 
 /// The most events of a chunk.
 pub const CHUNK: usize = 65_536;
@@ -40,7 +40,7 @@ pub trait Source {
 
 /// The events of a script's plan.
 pub struct PlanSource {
-    plan: Plan,
+    steps: Vec<Step>,
     /// The step under way.
     step: usize,
     /// The events of that step already given.
@@ -48,10 +48,10 @@ pub struct PlanSource {
 }
 
 impl PlanSource {
-    /// All events of a plan.
-    pub fn new(plan: Plan) -> PlanSource {
+    /// All events of the steps of a plan.
+    pub fn new(steps: Vec<Step>) -> PlanSource {
         PlanSource {
-            plan,
+            steps,
             step: 0,
             given: 0,
         }
@@ -59,7 +59,7 @@ impl PlanSource {
 
     /// The ticks left of the step under way, if it is one of ticks that are worth taking at once.
     fn long_ticks(&self) -> Option<u64> {
-        let step = self.plan.steps.get(self.step)?;
+        let step = self.steps.get(self.step)?;
         let is_long = step.events == [event::TICK] && step.times >= LONG;
         is_long.then(|| step.times - self.given)
     }
@@ -67,18 +67,18 @@ impl PlanSource {
 
 impl Source for PlanSource {
     fn total(&self) -> u64 {
-        self.plan.total()
+        total_of(&self.steps)
     }
 
     fn tally(&self) -> Tally {
-        self.plan.tally()
+        tally_of(&self.steps)
     }
 
     fn fill(&mut self, chunk: &mut Vec<u8>) -> Outcome {
         chunk.clear();
         // A long run of ticks begins a chunk, so that it can be taken instead.
         while chunk.is_empty() || self.long_ticks().is_none() {
-            let Some(step) = self.plan.steps.get(self.step) else {
+            let Some(step) = self.steps.get(self.step) else {
                 return Ok(());
             };
             let length = step.events.len() as u64;
@@ -224,7 +224,6 @@ fn test_events(mut source: FileSource, last: u8, unknown: &dyn fmt::Display) -> 
 #[cfg(test)]
 mod tests {
     use super::*;
-    use crate::script::Step;
 
     fn step(events: &[u8], times: u64) -> Step {
         Step {
@@ -236,7 +235,7 @@ mod tests {
     #[test]
     fn long_runs_of_ticks_are_taken_whole() {
         let steps = vec![step(&[0], 1), step(&[4], 59), step(&[4], 60), step(&[1], 1)];
-        let mut source = PlanSource::new(Plan { steps });
+        let mut source = PlanSource::new(steps);
         let mut chunk = Vec::new();
         assert_eq!(source.take_ticks(), 0);
         source.fill(&mut chunk).unwrap();
@@ -252,7 +251,7 @@ mod tests {
     #[test]
     fn chunks_joined_are_the_plan() {
         let steps = vec![step(&[0], 1), step(&[3, 2, 3], 50_000), step(&[4], 700)];
-        let mut source = PlanSource::new(Plan { steps });
+        let mut source = PlanSource::new(steps);
         let (mut joined, mut chunk) = (Vec::new(), Vec::new());
         loop {
             source.fill(&mut chunk).unwrap();

@@ -8,7 +8,7 @@ use crate::bus::{
 };
 use crate::chip::Part;
 use crate::failure::Outcome;
-use crate::output::Output;
+use crate::output::{Output, Paint};
 
 /// Prints what happens.
 pub struct Transcript<'run> {
@@ -24,7 +24,19 @@ impl<'run> Transcript<'run> {
 
 impl Listener for Transcript<'_> {
     fn happening(&mut self, happening: &Happening, _: Beside) -> Outcome {
-        self.output.line(&line_of(happening))
+        self.output
+            .painted(paint_of(happening), &line_of(happening))
+    }
+}
+
+/// The colour of a happening: what a device refuses stands out, and so does what is beside the bus.
+fn paint_of(happening: &Happening) -> Paint {
+    match happening {
+        Happening::Start { .. } | Happening::Stop => Paint::Plain,
+        Happening::Byte(byte) if byte.direction == Direction::Read => Paint::Plain,
+        Happening::Byte(byte) if byte.is_acknowledged() => Paint::Good,
+        Happening::Byte(_) => Paint::Bad,
+        Happening::Ticks(_) | Happening::Edges(_) | Happening::Power(_) => Paint::Aside,
     }
 }
 

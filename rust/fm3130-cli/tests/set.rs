@@ -510,7 +510,8 @@ fn what_knows_no_sets_says_so() {
         let words = [words, &["--part", "fm3164@1"]].concat();
         let (code, errors) = failed(&folder, &words, "");
         assert_eq!(code, 2);
-        let message = "fm3164@1 has select bits: it is for a set, which run and events alone know";
+        let message =
+            "fm3164@1 has select bits: it is for a set, which run, test and events alone know";
         assert!(errors.contains(message), "{words:?}: {errors}");
     }
     let words = ["fresh", "--part", "fm3164", "--part", "fm3164"];

@@ -86,7 +86,9 @@ fn what_is_wrong_is_shown_and_nothing_is_written() {
     // A script of one master has no turns.
     let ran = folder.run_with(&["run", "-"], "a: [ ]");
     assert_eq!(ran.code, 3);
-    assert!(ran.errors.contains("a is not one byte"));
+    assert!(ran
+        .errors
+        .contains("`fm3130 share` plays a script of two masters"));
 }
 
 #[test]

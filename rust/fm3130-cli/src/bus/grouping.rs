@@ -215,6 +215,12 @@ impl<'run> Grouping<'run> {
         self.tell(&Happening::Power(change))
     }
 
+    /// Tells what a later event could still have been a part of, but for a byte: somebody waits for it.
+    pub fn pause(&mut self) -> Outcome {
+        self.tell_ticks()?;
+        self.tell_edges()
+    }
+
     /// The clocks of the byte under way, if there are any.
     fn clocks_under_way(&self) -> Option<usize> {
         let clocks = self.group.clocks.len();

@@ -20,5 +20,5 @@ pub use grouping::{play_to, Beside, Grouping, Listener};
 pub use happening::{BusByte, BusClock, Direction, Happening, PowerChange};
 pub use meaning::named_by;
 pub use moment::{Moment, TickRun};
-pub use play::{play, Observer, Outputs, Player, Recorded};
+pub use play::{play, play_some, Observer, Outputs, Player, Recorded};
 pub use ticks::TickReport;

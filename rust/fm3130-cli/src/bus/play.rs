@@ -74,8 +74,21 @@ pub struct Recorded {
     pub answers: Vec<u8>,
 }
 
-/// Does all events of a source.
+/// Does all events of a source, and no event follows.
 pub fn play(player: &mut dyn Player, source: &mut dyn Source, outputs: &mut Outputs) -> Outcome {
+    play_some(player, source, outputs)?;
+    for observer in &mut outputs.observers {
+        observer.finish()?;
+    }
+    Ok(())
+}
+
+/// Does all events of a source, after which others may follow.
+pub fn play_some(
+    player: &mut dyn Player,
+    source: &mut dyn Source,
+    outputs: &mut Outputs,
+) -> Outcome {
     let mut progress = Progress::of(source.total());
     let mut chunk = Vec::with_capacity(CHUNK);
     let mut answers = vec![UNANSWERED; CHUNK];
@@ -108,9 +121,6 @@ pub fn play(player: &mut dyn Player, source: &mut dyn Source, outputs: &mut Outp
         progress.advance(chunk.len() as u64);
     }
     progress.clear();
-    for observer in &mut outputs.observers {
-        observer.finish()?;
-    }
     Ok(())
 }
 

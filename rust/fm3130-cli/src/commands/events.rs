@@ -4,17 +4,16 @@
 use std::ffi::OsString;
 use std::path::{Path, PathBuf};
 
-use fm3130::family::{Member, Select, Set};
+use fm3130::family::{Member, Set};
 
 use crate::amount::{self, Amount};
 use crate::arguments::{wrong, Arguments, Options};
-use crate::chip::Part;
 use crate::failure::Outcome;
 use crate::files::{self, NamedFile, Replacement};
 use crate::listing::Listing;
 use crate::output::Output;
 use crate::progress::Progress;
-use crate::script;
+use crate::script::Cast;
 use crate::source::{FileSource, PlanSource, Source};
 
 const OPTIONS: Options = Options {
@@ -35,52 +34,41 @@ pub fn command(words: Vec<OsString>) -> Outcome {
     let script = arguments.plain.first().map(PathBuf::from);
     let target = arguments.path("-o");
     let is_large = arguments.has(amount::OPTION);
-    let asked = Asked::of(&arguments)?;
+    let cast = cast_of(&arguments)?;
     match (script, arguments.path("--list")) {
         (Some(_), Some(_)) => Err(wrong("events takes a SCRIPT or --list, not both")),
         (None, None) => Err(wrong("events needs a SCRIPT or --list FILE")),
         (None, Some(_)) if target.is_some() => Err(wrong("--list prints; it takes no -o")),
-        (None, Some(path)) => match asked {
-            Asked::One(part) => list(FileSource::open(&path, part)?, is_large),
-            Asked::Set(_) => Err(wrong("--list knows no sets")),
+        (None, Some(path)) => match cast {
+            Cast::One(part) => list(FileSource::open(&path, part)?, is_large),
+            Cast::Set(_) => Err(wrong("--list knows no sets")),
         },
         (Some(path), None) => match target {
-            Some(target) => write(&path, &target, &asked, is_large),
-            None => print(asked.source(&path)?, is_large),
+            Some(target) => write(&path, &target, &cast, is_large),
+            None => print(source_of(&cast, &path)?, is_large),
         },
     }
 }
 
-/// What the events are for: one part, or a set of devices with these select bits.
-enum Asked {
-    One(Part),
-    Set(Vec<Select>),
+/// What the events are for: one part, or a set of devices.
+fn cast_of(arguments: &Arguments) -> Outcome<Cast> {
+    let Some(members) = arguments.set()? else {
+        return Ok(Cast::One(arguments.part()?));
+    };
+    let fresh = members
+        .iter()
+        .map(|(size, select)| Member::fresh(*size, *select));
+    match Set::new(fresh) {
+        Ok(_) => Ok(Cast::Set(
+            members.into_iter().map(|(_, select)| select).collect(),
+        )),
+        Err(refusal) => Err(wrong(format!("no set: {refusal}"))),
+    }
 }
 
-impl Asked {
-    fn of(arguments: &Arguments) -> Outcome<Asked> {
-        let Some(members) = arguments.set()? else {
-            return Ok(Asked::One(arguments.part()?));
-        };
-        let fresh = members
-            .iter()
-            .map(|(size, select)| Member::fresh(*size, *select));
-        match Set::new(fresh) {
-            Ok(_) => Ok(Asked::Set(
-                members.into_iter().map(|(_, select)| select).collect(),
-            )),
-            Err(refusal) => Err(wrong(format!("no set: {refusal}"))),
-        }
-    }
-
-    /// The events of a script.
-    fn source(&self, path: &Path) -> Outcome<PlanSource> {
-        let plan = match self {
-            Asked::One(part) => script::load(path, *part)?,
-            Asked::Set(selects) => script::load_for_set(path, selects)?,
-        };
-        Ok(PlanSource::new(plan))
-    }
+/// The events of a script.
+fn source_of(cast: &Cast, path: &Path) -> Outcome<PlanSource> {
+    Ok(PlanSource::new(cast.load(path)?.plan.steps))
 }
 
 /// Gives a source's chunks to someone, and shows how far it is.
@@ -99,19 +87,13 @@ fn for_each_chunk(source: &mut dyn Source, mut take: impl FnMut(&[u8]) -> Outcom
 }
 
 /// Writes the events of a script to a file.
-fn write(script: &Path, target: &Path, asked: &Asked, is_large: bool) -> Outcome {
-    files::must_differ(&[
-        NamedFile {
-            option: "SCRIPT",
-            path: script,
-        },
-        NamedFile {
-            option: "-o",
-            path: target,
-        },
-    ])?;
-    let mut source = asked.source(script)?;
-    let name = target.display().to_string();
+fn write(script: &Path, target: &Path, cast: &Cast, is_large: bool) -> Outcome {
+    if !files::is_input(script) {
+        let named = |option, path| NamedFile { option, path };
+        files::must_differ(&[named("SCRIPT", script), named("-o", target)])?;
+    }
+    let mut source = source_of(cast, script)?;
+    let name = files::name_of_written(target);
     amount::test(&[Amount::exactly(name, source.total())], is_large)?;
     let mut file = Replacement::open(target)?;
     for_each_chunk(&mut source, |chunk| file.write(chunk))?;

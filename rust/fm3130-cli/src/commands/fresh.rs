@@ -49,6 +49,9 @@ pub fn command(words: Vec<OsString>) -> Outcome {
 /// A file that is there is not overwritten without being asked to.
 fn may_be_written(path: &Path, is_forced: bool) -> Outcome {
     let is_there = path.symlink_metadata().is_ok();
+    if files::is_output(path) {
+        return Ok(());
+    }
     if is_there && !is_forced {
         return Err(Failure::Files(format!(
             "{}: is there already; --force overwrites it",

@@ -4,13 +4,15 @@
 use std::ffi::OsString;
 
 use crate::arguments::wrong;
-use crate::failure::Outcome;
+use crate::failure::{Failure, Outcome};
+use crate::nearest::nearest;
 use crate::output::Output;
 
 /// The pages by name. The first line of each file is its licence and is not shown.
-const PAGES: [(&str, &str); 11] = [
+const PAGES: [(&str, &str); 13] = [
     ("help", include_str!("../help/help.txt")),
     ("run", include_str!("../help/run.txt")),
+    ("test", include_str!("../help/test.txt")),
     ("share", include_str!("../help/share.txt")),
     ("events", include_str!("../help/events.txt")),
     ("view", include_str!("../help/view.txt")),
@@ -19,6 +21,7 @@ const PAGES: [(&str, &str); 11] = [
     ("lamps", include_str!("../help/lamps.txt")),
     ("mend", include_str!("../help/mend.txt")),
     ("trim", include_str!("../help/trim.txt")),
+    ("version", include_str!("../help/version.txt")),
     ("script", include_str!("../help/script.txt")),
 ];
 
@@ -31,7 +34,12 @@ pub fn command(words: Vec<OsString>) -> Outcome {
         .first()
         .map_or("help".into(), |word| word.to_string_lossy());
     let Some(page) = page(&name) else {
-        return Err(wrong(format!("no help on {name}")));
+        let near = nearest(&name, PAGES.iter().map(|(known, _)| *known));
+        let near = near.map_or(String::new(), |near| format!("; perhaps {near}"));
+        return Err(Failure::CommandLine(
+            format!("no help on {name}{near}"),
+            None,
+        ));
     };
     let mut output = Output::new();
     output.text(page)?;
@@ -39,7 +47,11 @@ pub fn command(words: Vec<OsString>) -> Outcome {
 }
 
 /// Shows the version.
-pub fn version() -> Outcome {
+pub fn version(words: Vec<OsString>) -> Outcome {
+    if let Some(word) = words.first() {
+        let word = word.to_string_lossy();
+        return Err(wrong(format!("one word too many: {word}")));
+    }
     let mut output = Output::new();
     output.line(concat!("fm3130 ", env!("CARGO_PKG_VERSION")))?;
     output.finish()

@@ -136,6 +136,11 @@ impl Picture {
         }
     }
 
+    /// Where words go: beside a picture on standard output.
+    fn words(&self) -> Output {
+        Output::beside_file(self.path.as_deref().is_some_and(files::is_output))
+    }
+
     /// Draws the wires around an answer that differs.
     fn draw(&mut self, shown: &Shown, index: usize) -> Outcome {
         let Some(path) = &self.path else {
@@ -171,7 +176,7 @@ impl Picture {
         };
         say_aside(&format!(
             "{}: not drawn, since {why}{removed}",
-            path.display()
+            files::name_of_written(path)
         ));
         Ok(())
     }
@@ -196,7 +201,7 @@ fn tell(
     let words = format!("{}: {verdict}", files::name_of(path));
     match verdict {
         Verdict::Agree { count } => {
-            let mut output = Output::new();
+            let mut output = picture.words();
             for line in agreement(count) {
                 output.line(&line)?;
             }
@@ -328,7 +333,7 @@ fn tell_difference(
     };
     // First, so that a reader who goes away does not matter to it.
     picture.draw(&shown, index)?;
-    let mut output = Output::new();
+    let mut output = picture.words();
     let name = format!("Event {index}");
     let words = place::event_words(shown.place.event);
     output.line(&format!("{name:<10} {words}"))?;

@@ -12,12 +12,13 @@ use crate::arguments::{wrong, Arguments, Options};
 use crate::bus::{self, Grouping, Listener, Outputs};
 use crate::chip::{Chip, Part};
 use crate::drawing::Drawing;
+use crate::expecting::Holding;
 use crate::failure::Outcome;
 use crate::files::{self, NamedFile, Replacement};
 use crate::output::Output;
 use crate::panel::Panel;
-use crate::script;
-use crate::source::{PlanSource, Source};
+use crate::script::{Cast, Script};
+use crate::source::PlanSource;
 
 const OPTIONS: Options = Options {
     with_value: &["--svg"],
@@ -33,11 +34,12 @@ pub fn command(words: Vec<OsString>) -> Outcome {
     };
     let svg = arguments.path("--svg");
     test_files(&path, svg.as_deref())?;
-    let source = PlanSource::new(script::load(&path, Part::Fm3130)?);
-    let words = Amount::about("standard output", source.tally().words());
+    let script = Cast::One(Part::Fm3130).load(&path)?;
+    let words = Amount::about("standard output", script.plan.tally().words());
     amount::test(&[words], arguments.has(amount::OPTION))?;
+    let output = Output::beside_file(svg.as_deref().is_some_and(files::is_output));
     let mut drawing = svg.map(|path| Replacement::open(&path)).transpose()?;
-    play(source, drawing.as_mut(), &title_of(&path))?;
+    play(script, drawing.as_mut(), &title_of(&path), output)?;
     files::commit_all(drawing.into_iter().collect())
 }
 
@@ -52,23 +54,31 @@ fn test_files(script: &Path, svg: Option<&Path>) -> Outcome {
     files::must_differ(&named)
 }
 
-/// Plays a source to the terminal, and to a drawing if there is one.
-fn play(mut source: PlanSource, file: Option<&mut Replacement>, title: &str) -> Outcome {
+/// Plays a script to the terminal, and to a drawing if there is one.
+fn play(
+    mut script: Script,
+    file: Option<&mut Replacement>,
+    title: &str,
+    mut output: Output,
+) -> Outcome {
+    let mut source = PlanSource::new(std::mem::take(&mut script.plan.steps));
     let (mut device, mut lamps) = (Chip::fresh(Part::Fm3130), Lamps::begun());
     let (state, dark) = (device.state(), lamps.report());
-    let mut output = Output::new();
     let mut panel = Panel::begin(&mut output, dark)?;
     let mut drawing = file.map(|file| Drawing::new(file, title, &state, Some(dark)));
     let mut listeners: Vec<&mut dyn Listener> = vec![&mut panel];
     listeners.extend(drawing.as_mut().map(|one| one as &mut dyn Listener));
     let mut grouping = Grouping::new(listeners, &state, Some(dark));
+    let mut holding = Holding::new(&script.plan.expectations, state.pin());
     let mut outputs = Outputs {
-        observers: vec![&mut grouping],
+        observers: vec![&mut grouping, &mut holding],
         prints: true,
         answers: None,
         recording: None,
         lamps: Some(&mut lamps),
     };
     bus::play(&mut device, &mut source, &mut outputs)?;
-    output.finish()
+    let held = holding.into_held();
+    output.finish()?;
+    held.into_outcome(&script)
 }

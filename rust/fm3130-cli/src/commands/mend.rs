@@ -25,6 +25,9 @@ pub fn command(words: Vec<OsString>) -> Outcome {
     let Some(path) = arguments.path("--image") else {
         return Err(wrong("mend needs --image FILE"));
     };
+    if files::is_output(&path) {
+        return Err(wrong("--image takes the name of a file, and no -"));
+    }
     let mended =
         Mended::of(read_device(&path)?).map_err(|refusal| Failure::of_refusal(&path, refusal))?;
     let is_written = mended.is_changed() && !arguments.has("--dry-run");

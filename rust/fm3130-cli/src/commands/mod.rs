@@ -11,49 +11,72 @@ mod playing;
 mod run;
 mod run_set;
 mod share;
+mod test;
 mod trim;
 mod view;
 
 use std::ffi::OsString;
 
-use crate::arguments::{part_of, wrong};
+use crate::arguments::{part_of, unknown, wrong};
 use crate::chip::Part;
 use crate::failure::Outcome;
 
 /// The commands that know the FM3130 alone.
 const OF_THE_FM3130: [&str; 5] = ["share", "judge", "lamps", "mend", "trim"];
 
+/// What does a command.
+type Command = fn(Vec<OsString>) -> Outcome;
+
+/// The commands by name.
+const COMMANDS: [(&str, Command); 12] = [
+    ("run", run::command),
+    ("test", test::command),
+    ("share", share::command),
+    ("events", events::command),
+    ("view", view::command),
+    ("fresh", fresh::command),
+    ("judge", judge::command),
+    ("lamps", lamps::command),
+    ("mend", mend::command),
+    ("trim", trim::command),
+    ("help", help::command),
+    ("version", help::version),
+];
+
+/// Other words for some of them.
+const OTHER_WORDS: [(&str, &str); 4] = [
+    ("--help", "help"),
+    ("-h", "help"),
+    ("--version", "version"),
+    ("-V", "version"),
+];
+
 /// Does the command that a command line names.
 pub fn dispatch(mut words: Vec<OsString>) -> Outcome {
     if words.is_empty() {
         return Err(wrong("no command"));
     }
-    let command = words.remove(0);
+    let word = words.remove(0);
+    let word = word.to_string_lossy();
+    let other = OTHER_WORDS.iter().find(|(other, _)| *other == word);
+    let wanted = other.map_or(word.as_ref(), |(_, name)| name);
+    let Some((name, command)) = COMMANDS.iter().find(|(name, _)| *name == wanted) else {
+        let known = COMMANDS.iter().map(|(name, _)| *name);
+        return Err(wrong(unknown("command", &word, known)));
+    };
     // `fm3130 run --help` is what many type first.
     let asks_for_help = |word: &OsString| word == "--help" || word == "-h";
-    if words.iter().any(asks_for_help) {
-        return help::command(vec![command]);
+    if words
+        .iter()
+        .take_while(|word| *word != "--")
+        .any(asks_for_help)
+    {
+        return help::command(vec![name.into()]);
     }
-    if let Some(name) = OF_THE_FM3130.iter().find(|name| command == **name) {
-        leave_part_out(name, &mut words)?;
+    if OF_THE_FM3130.contains(name) {
+        leave_part_out(name, &mut words).map_err(|failure| failure.in_command(name))?;
     }
-    match command.to_str() {
-        Some("run") => run::command(words),
-        Some("share") => share::command(words),
-        Some("events") => events::command(words),
-        Some("view") => view::command(words),
-        Some("fresh") => fresh::command(words),
-        Some("judge") => judge::command(words),
-        Some("lamps") => lamps::command(words),
-        Some("mend") => mend::command(words),
-        Some("trim") => trim::command(words),
-        Some("help" | "--help" | "-h") => help::command(words),
-        Some("version" | "--version" | "-V") => help::version(),
-        _ => Err(wrong(format!(
-            "unknown command {}",
-            command.to_string_lossy()
-        ))),
-    }
+    command(words).map_err(|failure| failure.in_command(name))
 }
 
 /// Takes `--part fm3130` out of the words of a command that knows that part alone, and refuses others.
@@ -74,7 +97,7 @@ fn leave_part_out(command: &str, words: &mut Vec<OsString>) -> Outcome {
     match part_of(&chosen)? {
         Part::Fm3130 => Ok(()),
         part => Err(wrong(format!(
-            "{command} is for the FM3130 alone, and knows no {part}; run, events, view and fresh do"
+            "{command} is for the FM3130 alone, and knows no {part}; run, test, events, view and fresh do"
         ))),
     }
 }

@@ -3,17 +3,19 @@
 
 use std::path::{Path, PathBuf};
 
-use crate::amount::{self, Amount};
+use crate::amount::{self, Amount, Tally};
 use crate::arguments::{wrong, Arguments};
 use crate::bus::{self, Grouping, Listener, Observer, Outputs, Player, Recorded};
 use crate::chip::State;
 use crate::drawing::Drawing;
+use crate::expecting::{self, Holding};
 use crate::failure::Outcome;
 use crate::files::{self, Loaded, NamedFile, Replacement};
-use crate::output::Output;
-use crate::script::Plan;
+use crate::output::{say_aside, Output};
+use crate::script::{Cast, Script};
 use crate::source::{FileSource, PlanSource, Source};
 use crate::transcript::Transcript;
+use crate::typing::Typed;
 use crate::waveform::Waveform;
 
 /// Options that name files, with the script first.
@@ -28,12 +30,11 @@ const FILES: [&str; 7] = [
 ];
 
 /// Refuses a run that would write more than it was asked for, before anything is done.
-pub(super) fn test_amounts(arguments: &Arguments, source: &dyn Source) -> Outcome {
-    let tally = source.tally();
+pub(super) fn test_amounts(arguments: &Arguments, feed: &Feed) -> Outcome {
+    let tally = feed.tally();
     let name = |option| {
-        arguments
-            .path(option)
-            .map(|path| path.display().to_string())
+        let path = arguments.path(option);
+        path.map(|path| files::name_of_written(&path))
     };
     let answers = name("--answers").map(|name| Amount::exactly(name, tally.events()));
     let waveform = name("--vcd").map(|name| Amount::about(name, tally.waveform()));
@@ -43,12 +44,32 @@ pub(super) fn test_amounts(arguments: &Arguments, source: &dyn Source) -> Outcom
     amount::test(&amounts, arguments.has(amount::OPTION))
 }
 
+/// Options whose files are written and not read, so that one of them may be standard output.
+const WRITTEN: [&str; 4] = ["--answers", "--vcd", "--svg", "--capture"];
+
+/// Whether a file is written to standard output, so that words go elsewhere.
+pub(super) fn takes_output(arguments: &Arguments) -> bool {
+    let named = |option: &&str| arguments.path(option);
+    let mut paths = WRITTEN.iter().filter_map(named);
+    paths.any(|path| files::is_output(&path))
+}
+
 /// Refuses a command line in which two words name one file. Plans are files that no word names.
 pub(super) fn test_files(
     arguments: &Arguments,
     script: Option<&Path>,
     plans: &[(&'static str, PathBuf)],
 ) -> Outcome {
+    for option in ["--image", "--memory", "--events"] {
+        if arguments
+            .path(option)
+            .is_some_and(|path| files::is_output(&path))
+        {
+            return Err(wrong(format!(
+                "{option} takes the name of a file, and no -"
+            )));
+        }
+    }
     let paths: Vec<(&str, PathBuf)> = FILES
         .into_iter()
         .filter_map(|option| Some((option, arguments.path(option)?)))
@@ -66,18 +87,75 @@ pub(super) fn test_files(
     files::must_differ(&named)
 }
 
-/// The source of events and its name: a script, by what loads it, or an event file, by what opens it.
-pub(super) fn open_source(
-    script: Option<PathBuf>,
-    events: Option<PathBuf>,
-    load: impl Fn(&Path) -> Outcome<Plan>,
-    open: impl Fn(&Path) -> Outcome<FileSource>,
-) -> Outcome<(Box<dyn Source>, String)> {
-    match (script, events) {
-        (Some(path), None) => Ok((Box::new(PlanSource::new(load(&path)?)), title_of(&path))),
-        (None, Some(path)) => Ok((Box::new(open(&path)?), title_of(&path))),
-        (Some(_), Some(_)) => Err(wrong("run takes a SCRIPT or --events, not both")),
-        (None, None) => Err(wrong("run needs a SCRIPT")),
+/// Events that are played together, and the script that they come from, which may expect something.
+pub struct Piece {
+    /// The events.
+    pub source: Box<dyn Source>,
+    /// The script without its steps; empty for an event file.
+    pub script: Script,
+}
+
+impl Piece {
+    /// A whole script.
+    pub fn of(mut script: Script) -> Piece {
+        let steps = std::mem::take(&mut script.plan.steps);
+        Piece {
+            source: Box::new(PlanSource::new(steps)),
+            script,
+        }
+    }
+}
+
+/// Where the events of a run come from.
+pub(super) enum Feed {
+    /// A script or an event file, until it is taken.
+    Whole(Option<Piece>),
+    /// A script that somebody types, played line by line.
+    Typed(Typed),
+}
+
+impl Feed {
+    /// A script, by who plays it, or an event file, by what opens it; and its name.
+    pub fn open(
+        script: Option<PathBuf>,
+        events: Option<PathBuf>,
+        cast: Cast,
+        open: impl Fn(&Path) -> Outcome<FileSource>,
+    ) -> Outcome<(Feed, String)> {
+        let whole = |piece| Feed::Whole(Some(piece));
+        match (script, events) {
+            (Some(path), None) if files::is_input(&path) && Typed::is_possible() => {
+                Ok((Feed::Typed(Typed::new(cast)), title_of(&path)))
+            }
+            (Some(path), None) => Ok((whole(Piece::of(cast.load(&path)?)), title_of(&path))),
+            (None, Some(path)) => {
+                let source = Box::new(open(&path)?);
+                let script = Script::default();
+                Ok((whole(Piece { source, script }), title_of(&path)))
+            }
+            (Some(_), Some(_)) => Err(wrong("run takes a SCRIPT or --events, not both")),
+            (None, None) => Err(wrong("run needs a SCRIPT")),
+        }
+    }
+
+    /// How many events there are, as far as that is known.
+    pub fn tally(&self) -> Tally {
+        match self {
+            Feed::Whole(Some(piece)) => piece.source.tally(),
+            _ => Tally::default(),
+        }
+    }
+
+    /// What is played next; nothing at the end.
+    fn next(&mut self) -> Outcome<Option<Piece>> {
+        match self {
+            Feed::Whole(piece) => Ok(piece.take()),
+            Feed::Typed(typed) => Ok(typed.next()?.map(Piece::of)),
+        }
+    }
+
+    fn is_typed(&self) -> bool {
+        matches!(self, Feed::Typed(_))
     }
 }
 
@@ -123,32 +201,51 @@ pub(super) struct Audience<'run> {
 }
 
 impl Audience<'_> {
-    /// Plays a source, from a first state on.
-    pub fn see(self, player: &mut dyn Player, first: &State, source: &mut dyn Source) -> Outcome {
+    /// Plays all that a feed gives, from a first state on. Expectations that are not met are a failure at the end; whoever
+    /// types is told at once, and goes on.
+    pub fn see(mut self, player: &mut dyn Player, first: &State, feed: &mut Feed) -> Outcome {
         let prints = self.output.is_some();
         let mut transcript = self.output.map(Transcript::new);
-        let mut drawing = self.drawing;
         let mut listeners: Vec<&mut dyn Listener> = Vec::new();
         listeners.extend(transcript.as_mut().map(|one| one as &mut dyn Listener));
-        listeners.extend(drawing.as_mut().map(|one| one as &mut dyn Listener));
+        listeners.extend(self.drawing.as_mut().map(|one| one as &mut dyn Listener));
         let is_heard = !listeners.is_empty();
         let mut grouping = Grouping::new(listeners, first, None);
         let mut waveform = match self.vcd {
             Some(file) => Some(Waveform::begin(file, first)?),
             None => None,
         };
-        let mut observers: Vec<&mut dyn Observer> = Vec::new();
-        if is_heard {
-            observers.push(&mut grouping);
+        let (mut pin, mut outcome) = (first.pin(), Ok(()));
+        while let Some(mut piece) = feed.next()? {
+            let mut holding = Holding::new(&piece.script.plan.expectations, pin);
+            let mut observers: Vec<&mut dyn Observer> = Vec::new();
+            if is_heard {
+                observers.push(&mut grouping);
+            }
+            observers.extend(waveform.as_mut().map(|one| one as &mut dyn Observer));
+            if feed.is_typed() || holding.expects() {
+                observers.push(&mut holding);
+            }
+            let mut outputs = Outputs {
+                observers,
+                prints,
+                answers: self.answers.as_deref_mut(),
+                recording: self.recording.as_deref_mut(),
+                lamps: None,
+            };
+            bus::play_some(player, &mut *piece.source, &mut outputs)?;
+            let held = holding.into_held();
+            pin = held.pin;
+            if feed.is_typed() {
+                grouping.pause()?;
+                let shown = expecting::shown_in(&held.unmet, &piece.script);
+                shown.iter().for_each(|words| say_aside(words));
+            } else {
+                outcome = held.into_outcome(&piece.script);
+            }
         }
-        observers.extend(waveform.as_mut().map(|one| one as &mut dyn Observer));
-        let mut outputs = Outputs {
-            observers,
-            prints,
-            answers: self.answers,
-            recording: self.recording,
-            lamps: None,
-        };
-        bus::play(player, source, &mut outputs)
+        grouping.finish()?;
+        waveform.map_or(Ok(()), |mut one| one.finish())?;
+        outcome
     }
 }

@@ -7,7 +7,7 @@ use std::path::PathBuf;
 use fm3130::capture::{self, Capture};
 use fm3130::Phase;
 
-use super::playing::{open_asked, open_source, test_amounts, test_files, told, Audience};
+use super::playing::{open_asked, takes_output, test_amounts, test_files, told, Audience, Feed};
 use super::run_set;
 use crate::amount;
 use crate::arguments::{wrong, Arguments, Options};
@@ -17,8 +17,8 @@ use crate::drawing::Drawing;
 use crate::failure::{Failure, Outcome};
 use crate::files::{self, Replacement};
 use crate::output::Output;
-use crate::script;
-use crate::source::{FileSource, Source};
+use crate::script::Cast;
+use crate::source::FileSource;
 use crate::words;
 
 const OPTIONS: Options = Options {
@@ -46,24 +46,24 @@ pub fn command(words: Vec<OsString>) -> Outcome {
     let part = arguments.part()?;
     test_files(&arguments, script.as_deref(), &[])?;
     test_capture(&arguments, part)?;
-    let (mut source, title) = open_source(
+    let (mut feed, title) = Feed::open(
         script,
         arguments.path("--events"),
-        |path| script::load(path, part),
+        Cast::One(part),
         |path| FileSource::open(path, part),
     )?;
-    test_amounts(&arguments, &*source)?;
+    test_amounts(&arguments, &feed)?;
     let is_quiet = arguments.has("--quiet");
-    let mut output = Output::new();
+    let mut output = Output::beside_file(takes_output(&arguments));
     let mut device = load_device(&arguments, part, is_quiet, &mut output)?;
-    test_length(&arguments, &*source)?;
+    test_length(&arguments, &feed)?;
     let begin = device.clone();
     let mut targets = Targets::open(&arguments)?;
     if !is_quiet {
         say_where_it_begins(&device, &mut output)?;
     }
     let transcript = (!is_quiet).then_some(&mut output);
-    play_to(&mut device, &mut *source, &mut targets, transcript, &title)?;
+    play_to(&mut device, &mut feed, &mut targets, transcript, &title)?;
     say_how_it_ends(&arguments, &device, &mut output)?;
     output.finish()?;
     targets.commit(&begin, &device)
@@ -80,8 +80,8 @@ fn test_capture(arguments: &Arguments, part: Part) -> Outcome {
 }
 
 /// Refuses a run that is too long for a capture, before anything is done.
-fn test_length(arguments: &Arguments, source: &dyn Source) -> Outcome {
-    let total = source.total();
+fn test_length(arguments: &Arguments, feed: &Feed) -> Outcome {
+    let total = feed.tally().events();
     if arguments.path("--capture").is_some() && total > capture::MOST_EVENTS as u64 {
         return Err(too_long(total));
     }
@@ -145,10 +145,10 @@ fn say_how_it_ends(arguments: &Arguments, device: &Chip, output: &mut Output) ->
     Ok(())
 }
 
-/// Plays a source to all who want to see it.
+/// Plays what a feed gives to all who want to see it.
 fn play_to(
     device: &mut Chip,
-    source: &mut dyn Source,
+    feed: &mut Feed,
     targets: &mut Targets,
     output: Option<&mut Output>,
     title: &str,
@@ -162,7 +162,7 @@ fn play_to(
         answers: targets.answers.as_mut(),
         recording: targets.capture.as_ref().map(|_| &mut targets.recorded),
     };
-    audience.see(device, &state, source)
+    audience.see(device, &state, feed)
 }
 
 /// The files that a run writes. All are opened before the run and put in place after it.

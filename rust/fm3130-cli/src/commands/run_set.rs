@@ -6,15 +6,15 @@ use std::path::{Path, PathBuf};
 use fm3130::family::{Member, Select, Set, Size};
 use fm3130::IMAGE_BYTES;
 
-use super::playing::{open_asked, open_source, test_amounts, test_files, told, Audience};
+use super::playing::{open_asked, takes_output, test_amounts, test_files, told, Audience, Feed};
 use crate::arguments::{wrong, Arguments};
 use crate::chip::State;
 use crate::drawing::Drawing;
 use crate::failure::{Failure, Outcome};
 use crate::files::{self, Replacement};
 use crate::output::Output;
-use crate::script;
-use crate::source::{FileSource, Source};
+use crate::script::Cast;
+use crate::source::FileSource;
 use crate::words;
 
 /// Options that are for one device: with a file, and alone.
@@ -29,20 +29,20 @@ pub fn command(
     test_options(arguments)?;
     test_files(arguments, script.as_deref(), &plans_of(arguments))?;
     let is_quiet = arguments.has("--quiet");
-    let mut output = Output::new();
+    let mut output = Output::beside_file(takes_output(arguments));
     test_members(members)?;
     let selects: Vec<Select> = members.iter().map(|(_, select)| *select).collect();
-    let (mut source, title) = open_source(
+    let (mut feed, title) = Feed::open(
         script,
         arguments.path("--events"),
-        |path| script::load_for_set(path, &selects),
+        Cast::Set(selects),
         |path| FileSource::open_for_set(path, members.len()),
     )?;
-    test_amounts(arguments, &*source)?;
+    test_amounts(arguments, &feed)?;
     let mut set = load_set(arguments, members, is_quiet, &mut output)?;
     let mut targets = Targets::open(arguments, title)?;
     let printed = (!is_quiet).then_some(&mut output);
-    play_to(&mut set, &mut *source, &mut targets, printed)?;
+    play_to(&mut set, &mut feed, &mut targets, printed)?;
     if !is_quiet {
         say_how_it_ends(&set, &mut output)?;
     }
@@ -214,10 +214,10 @@ fn plan_of(set: &Set) -> String {
     words.map(|word| word + "\n").collect()
 }
 
-/// Plays a source to all who want to see it.
+/// Plays what a feed gives to all who want to see it.
 fn play_to(
     set: &mut Set,
-    source: &mut dyn Source,
+    feed: &mut Feed,
     targets: &mut Targets,
     output: Option<&mut Output>,
 ) -> Outcome {
@@ -231,7 +231,7 @@ fn play_to(
         answers: targets.answers.as_mut(),
         recording: None,
     };
-    audience.see(set, &first, source)
+    audience.see(set, &first, feed)
 }
 
 /// Each device in words.

@@ -12,7 +12,7 @@ use crate::failure::Outcome;
 use crate::files::{self, NamedFile, Replacement};
 use crate::output::Output;
 use crate::script::{Plan, Turn};
-use crate::{script, sharing};
+use crate::{expecting, script, sharing};
 
 const OPTIONS: Options = Options {
     with_value: &["--svg"],
@@ -30,14 +30,16 @@ pub fn command(words: Vec<OsString>) -> Outcome {
     if let Some(svg) = &svg {
         must_differ(&path, svg)?;
     }
-    let turns = script::load_turns(&path)?;
+    let (turns, script) = script::load_turns(&path)?;
     sharing::test_lengths(&turns)?;
     test_amount(&arguments, &turns)?;
+    let mut output = Output::beside_file(svg.as_deref().is_some_and(files::is_output));
     let mut picture = svg.map(|path| Replacement::open(&path)).transpose()?;
-    let mut output = Output::new();
     let listens = (!arguments.has("--quiet")).then_some(&mut output);
-    let played = sharing::play(Device::fresh(), &turns, listens)?;
+    let mut unmet = Vec::new();
+    let played = sharing::play(Device::fresh(), &turns, listens, &mut unmet)?;
     output.finish()?;
+    expecting::outcome_of(&unmet, &script)?;
     if let Some(file) = &mut picture {
         let title = path
             .file_name()

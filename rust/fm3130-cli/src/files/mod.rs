@@ -39,6 +39,19 @@ pub fn is_input(path: &Path) -> bool {
     path == Path::new("-")
 }
 
+/// Whether a path that is written stands for standard output.
+pub fn is_output(path: &Path) -> bool {
+    path == Path::new("-")
+}
+
+/// What a file that is written is called in words.
+pub fn name_of_written(path: &Path) -> String {
+    match is_output(path) {
+        true => "standard output".to_string(),
+        false => path.display().to_string(),
+    }
+}
+
 /// What a file is called in words.
 pub fn name_of(path: &Path) -> String {
     match is_input(path) {
@@ -63,7 +76,7 @@ pub fn read_or_input(path: &Path, most: usize) -> Outcome<Vec<u8>> {
 
 /// Removes a file; whether one was there. A device such as `/dev/null` stays.
 pub fn remove(path: &Path) -> Outcome<bool> {
-    if !path.is_file() {
+    if is_output(path) || !path.is_file() {
         return Ok(false);
     }
     // A link stays a link: the file that it leads to is removed.

@@ -6,22 +6,49 @@ use std::io::{self, BufWriter, Write};
 use std::path::{Path, PathBuf};
 use std::process;
 
+use super::is_output;
 use crate::failure::{Failure, Outcome};
+use crate::interrupt::Passing;
 
 /// A file that is written beside its target and takes the target's place at the very end. Dropped
 /// before that, it leaves the target as it was.
 pub struct Replacement {
     target: PathBuf,
-    /// Where the bytes go; none if the target is a device such as `/dev/null`, which must not be
+    /// Where the bytes go; none if the target is standard output, or a device such as `/dev/null`, which must not be
     /// replaced and is written directly.
-    temporary: Option<PathBuf>,
-    writer: BufWriter<File>,
+    temporary: Option<Passing>,
+    writer: BufWriter<Sink>,
+}
+
+/// What takes the bytes.
+enum Sink {
+    File(File),
+    Output(io::Stdout),
+}
+
+impl Write for Sink {
+    fn write(&mut self, bytes: &[u8]) -> io::Result<usize> {
+        match self {
+            Sink::File(file) => file.write(bytes),
+            Sink::Output(output) => output.write(bytes),
+        }
+    }
+
+    fn flush(&mut self) -> io::Result<()> {
+        match self {
+            Sink::File(file) => file.flush(),
+            Sink::Output(output) => output.flush(),
+        }
+    }
 }
 
 impl Replacement {
-    /// Opens a replacement of a file, which need not be there. A place that cannot be written is
+    /// Opens a replacement of a file, which need not be there; `-` is standard output. A place that cannot be written is
     /// found here, before any work.
     pub fn open(path: &Path) -> Outcome<Replacement> {
+        if is_output(path) {
+            return Ok(Replacement::direct(path, Sink::Output(io::stdout())));
+        }
         Replacement::try_open(path).map_err(|error| Failure::of_file(path, &error))
     }
 
@@ -33,54 +60,62 @@ impl Replacement {
         }
         if target.exists() && !target.is_file() {
             let file = OpenOptions::new().write(true).open(&target)?;
-            return Ok(Replacement {
-                target,
-                temporary: None,
-                writer: BufWriter::new(file),
-            });
+            return Ok(Replacement::direct(&target, Sink::File(file)));
         }
-        let temporary = name_beside(&target)?;
+        // Known before it is there, so that it goes whenever the command is interrupted.
+        let temporary = Passing::new(name_beside(&target)?);
         let file = OpenOptions::new()
             .write(true)
             .create_new(true)
-            .open(&temporary)?;
-        let opened = Replacement {
-            writer: BufWriter::new(file),
+            .open(temporary.path())?;
+        // The replaced file's permissions go to the new one.
+        if let Ok(old) = fs::metadata(&target) {
+            file.set_permissions(old.permissions())?;
+        }
+        Ok(Replacement {
+            writer: BufWriter::new(Sink::File(file)),
             temporary: Some(temporary),
             target,
-        };
-        opened.keep_permissions()?;
-        Ok(opened)
+        })
     }
 
-    /// The replaced file's permissions go to the new one.
-    fn keep_permissions(&self) -> io::Result<()> {
-        match fs::metadata(&self.target) {
-            Ok(old) => self.writer.get_ref().set_permissions(old.permissions()),
-            Err(_) => Ok(()),
+    /// A target that is written directly.
+    fn direct(target: &Path, sink: Sink) -> Replacement {
+        Replacement {
+            target: target.to_path_buf(),
+            temporary: None,
+            writer: BufWriter::new(sink),
+        }
+    }
+
+    /// What could not be written, and why.
+    fn failure(&self, error: &io::Error) -> Failure {
+        match is_output(&self.target) {
+            true => Failure::of_output(error),
+            false => Failure::of_file(&self.target, error),
         }
     }
 
     /// Adds bytes.
     pub fn write(&mut self, bytes: &[u8]) -> Outcome {
-        self.writer
-            .write_all(bytes)
-            .map_err(|error| Failure::of_file(&self.target, &error))
+        let written = self.writer.write_all(bytes);
+        written.map_err(|error| self.failure(&error))
     }
 
     /// Brings every byte to the disk; after this only the change of names is left.
     fn settle(&mut self) -> Outcome {
-        let settled = self.writer.flush().and_then(|()| match self.temporary {
-            Some(_) => self.writer.get_ref().sync_all(),
-            None => Ok(()),
+        let flushed = self.writer.flush();
+        let settled = flushed.and_then(|()| match (self.writer.get_ref(), &self.temporary) {
+            (Sink::File(file), Some(_)) => file.sync_all(),
+            _ => Ok(()),
         });
-        settled.map_err(|error| Failure::of_file(&self.target, &error))
+        settled.map_err(|error| self.failure(&error))
     }
 
     /// Takes the target's place.
     fn take_place(&mut self) -> Outcome {
         if let Some(temporary) = &self.temporary {
-            fs::rename(temporary, &self.target)
+            fs::rename(temporary.path(), &self.target)
                 .map_err(|error| Failure::of_file(&self.target, &error))?;
         }
         self.temporary = None;
@@ -92,7 +127,7 @@ impl Drop for Replacement {
     fn drop(&mut self) {
         if let Some(temporary) = &self.temporary {
             // Nothing can be done about a file that cannot be removed.
-            let _ = fs::remove_file(temporary);
+            let _ = fs::remove_file(temporary.path());
         }
     }
 }

@@ -10,10 +10,9 @@ mod parse;
 mod plan;
 mod problem;
 
-pub use item::Turn;
-pub use plan::Plan;
-#[cfg(test)]
-pub use plan::Step;
+pub use item::{Expected, Turn};
+pub use plan::{tally_of, total_of, Expectation, Plan, Step};
+pub use problem::Problem;
 
 use std::path::Path;
 
@@ -23,24 +22,63 @@ use crate::chip::Part;
 use crate::failure::{Failure, Outcome};
 use crate::files;
 
-/// A script's plan for a part; `-` reads standard input.
-pub fn load(path: &Path, part: Part) -> Outcome<Plan> {
-    let (name, text) = read(path)?;
-    plan_of(&name, &text, part)
+/// A script: its plan, and the text that it comes from.
+#[derive(Clone, Debug, Default)]
+pub struct Script {
+    /// What is done and expected.
+    pub plan: Plan,
+    /// The file's name in words.
+    pub name: String,
+    /// The text.
+    pub text: String,
 }
 
-/// A script's plan for a set, whose devices have these select bits; `-` reads standard input.
-pub fn load_for_set(path: &Path, selects: &[Select]) -> Outcome<Plan> {
-    let (name, text) = read(path)?;
-    let items = parse::parse_for_set(&text, selects)
-        .map_err(|problem| Failure::Script(problem.shown_in(&name, &text)))?;
-    Ok(Plan::of(&items))
+impl Script {
+    /// A problem with its line and a mark below its place.
+    pub fn shown(&self, problem: &Problem) -> String {
+        problem.shown_in(&self.name, &self.text)
+    }
 }
 
-/// The turns of a script of two masters; `-` reads standard input.
-pub fn load_turns(path: &Path) -> Outcome<Vec<Turn>> {
+/// Who plays a script.
+#[derive(Clone, Debug)]
+pub enum Cast {
+    /// A device of a part.
+    One(Part),
+    /// A set, whose devices have these select bits.
+    Set(Vec<Select>),
+}
+
+impl Cast {
+    /// The plan of a text, or the first problem in it.
+    pub fn plan_of(&self, text: &str) -> Result<Plan, Problem> {
+        let items = match self {
+            Cast::One(part) => parse::parse(text, *part)?,
+            Cast::Set(selects) => parse::parse_for_set(text, selects)?,
+        };
+        Ok(Plan::of(&items))
+    }
+
+    /// The script in a file; `-` reads standard input.
+    pub fn load(&self, path: &Path) -> Outcome<Script> {
+        let (name, text) = read(path)?;
+        match self.plan_of(&text) {
+            Ok(plan) => Ok(Script { plan, name, text }),
+            Err(problem) => Err(Failure::Script(problem.shown_in(&name, &text))),
+        }
+    }
+}
+
+/// The turns of a script of two masters, and its name and text without a plan; `-` reads standard input.
+pub fn load_turns(path: &Path) -> Outcome<(Vec<Turn>, Script)> {
     let (name, text) = read(path)?;
-    parse::parse_turns(&text).map_err(|problem| Failure::Script(problem.shown_in(&name, &text)))
+    match parse::parse_turns(&text) {
+        Ok(turns) => {
+            let plan = Plan::default();
+            Ok((turns, Script { plan, name, text }))
+        }
+        Err(problem) => Err(Failure::Script(problem.shown_in(&name, &text))),
+    }
 }
 
 /// The longest script that is read. What it says is in memory too, up to a hundred times as much.
@@ -59,11 +97,4 @@ fn read(path: &Path) -> Outcome<(String, String)> {
         Failure::Script(format!("{name}: not UTF-8 text at byte {place}"))
     })?;
     Ok((name, text))
-}
-
-/// The plan of a text.
-fn plan_of(name: &str, text: &str, part: Part) -> Outcome<Plan> {
-    let items = parse::parse(text, part)
-        .map_err(|problem| Failure::Script(problem.shown_in(name, text)))?;
-    Ok(Plan::of(&items))
 }

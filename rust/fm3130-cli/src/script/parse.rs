@@ -4,24 +4,33 @@
 use fm3130::family::{edge_1, edge_2, Select};
 use fm3130::masters::Master;
 
-use super::item::{Action, Item, Ninth, Turn};
+use super::item::{Action, Expected, Item, Ninth, Turn};
 use super::problem::{Place, Problem};
 use crate::chip::Part;
+use crate::nearest::nearest;
 
 /// The greatest repeat: a century has 3,155,760,000 seconds.
 const MOST_TIMES: u64 = 4_294_967_295;
 
 /// What words there are, for whoever wrote another.
-const KNOWN_WORDS: &str =
-    "known: [ ] r r+ R r- t lost gone power, bytes as A0 or 0xA0, clocks as {0110}";
+const KNOWN_WORDS: &str = "known: [ ] r r+ R r- t lost gone power, bytes as A0 or 0xA0, \
+                           clocks as {0110}, expectations as r=5A A0+ A0- pin=low";
 
 /// The same for a part with counters.
 const KNOWN_WITH_EDGES: &str =
-    "known: [ ] r r+ R r- t c1 c2 lost gone power, bytes as A0 or 0xA0, clocks as {0110}";
+    "known: [ ] r r+ R r- t c1 c2 lost gone power, bytes as A0 or 0xA0, \
+     clocks as {0110}, expectations as r=5A A0+ A0-";
 
 /// The same for a set.
 const KNOWN_IN_A_SET: &str =
-    "known: [ ] r r+ R r- t c1@0 c2@0 lost gone power, bytes as A0 or 0xA0, clocks as {0110}";
+    "known: [ ] r r+ R r- t c1@0 c2@0 lost gone power, bytes as A0 or 0xA0, \
+     clocks as {0110}, expectations as r=5A A0+ A0-";
+
+/// Words of more than a letter, one of which a typo may have been.
+const LONG_WORDS: [&str; 3] = ["lost", "gone", "power"];
+
+/// A message and advice.
+type Wrong = (String, String);
 
 /// What a script is for.
 #[derive(Clone, Copy)]
@@ -47,6 +56,7 @@ fn parse_for(text: &str, target: Target) -> Result<Vec<Item>, Problem> {
     for (index, content) in text.lines().enumerate() {
         let mut line = Line::new(index + 1, content, target);
         while line.skip_to_item() {
+            line.must_be_of_one_master()?;
             items.push(line.item()?);
         }
     }
@@ -157,20 +167,44 @@ impl<'run> Line<'run> {
         Some(master)
     }
 
-    /// An item: an action and its repeat.
+    /// Refuses a turn of two masters where there is one.
+    fn must_be_of_one_master(&mut self) -> Result<(), Problem> {
+        let begin = self.next;
+        match self.master() {
+            None => Ok(()),
+            Some(_) => Err(Problem::new(
+                self.since(begin),
+                "this begins a turn of two masters",
+                "`fm3130 share` plays a script of two masters",
+            )),
+        }
+    }
+
+    /// An item: an action, what is expected of it, and its repeat.
     fn item(&mut self) -> Result<Item, Problem> {
-        let action = match self.peek() {
-            Some('[') => self.single(Action::Start),
-            Some(']') => self.single(Action::Stop),
-            Some('{') => self.clocks()?,
+        let begin = self.next;
+        let (action, expected) = match self.peek() {
+            Some('[') => (self.single(Action::Start), None),
+            Some(']') => (self.single(Action::Stop), None),
+            Some('{') => (self.clocks()?, None),
             Some('}') => return Err(self.stray("there is no { before this }")),
             Some(':' | '*') => {
                 return Err(self.stray("a repeat stands right after what it repeats"))
             }
             _ => self.word()?,
         };
+        let word = self.since(begin);
         let times = self.times()?;
-        Ok(Item { action, times })
+        if action == Action::Look && self.since(begin) != word {
+            let message = "the pin is looked at once";
+            return Err(Problem::new(self.since(begin), message, ""));
+        }
+        Ok(Item {
+            action,
+            times,
+            expected,
+            place: self.since(begin),
+        })
     }
 
     fn single(&mut self, action: Action) -> Action {
@@ -223,7 +257,7 @@ impl<'run> Line<'run> {
     }
 
     /// A word: up to a blank, a bracket, a brace, a repeat or a comment.
-    fn word(&mut self) -> Result<Action, Problem> {
+    fn word(&mut self) -> Result<(Action, Option<Expected>), Problem> {
         let begin = self.next;
         while let Some(sign) = self.peek() {
             let ends = sign.is_whitespace() || ",[]{}:*".contains(sign) || self.is_at_comment();
@@ -233,10 +267,8 @@ impl<'run> Line<'run> {
             self.next += 1;
         }
         let word: String = self.signs[begin..self.next].iter().collect();
-        match meaning_of(&word, self.target) {
-            Ok(action) => Ok(action),
-            Err((message, advice)) => Err(Problem::new(self.since(begin), message, advice)),
-        }
+        meaning_of(&word, self.target)
+            .map_err(|(message, advice)| Problem::new(self.since(begin), message, advice))
     }
 
     /// The repeat right after an action, or 1.
@@ -268,16 +300,86 @@ impl<'run> Line<'run> {
     }
 }
 
+/// What a word asks for and expects; else a message and advice.
+fn meaning_of(word: &str, target: Target) -> Result<(Action, Option<Expected>), Wrong> {
+    if let Some((left, right)) = word.split_once('=') {
+        return expectation(word, left, right, target);
+    }
+    // `r+` and `r-` say what the master does, and `A0+` and `A0-` what the device is to do.
+    let acknowledge = match word.strip_suffix(['+', '-']) {
+        Some(byte) if is_byte(byte) => Some((byte, word.ends_with('+'))),
+        _ => None,
+    };
+    match acknowledge {
+        Some((byte, is_expected)) => Ok((
+            action_of(byte, target)?,
+            Some(Expected::Acknowledge(is_expected)),
+        )),
+        None => Ok((action_of(word, target)?, None)),
+    }
+}
+
+/// `r=5A` and `pin=low`.
+fn expectation(
+    word: &str,
+    left: &str,
+    right: &str,
+    target: Target,
+) -> Result<(Action, Option<Expected>), Wrong> {
+    let wrong = |message: String, advice: &str| Err((message, advice.to_string()));
+    match (left, read_of(left)) {
+        ("pin", _) => match Expected::PINS.iter().find(|(name, _)| *name == right) {
+            _ if !has_pin(target) => wrong(format!("{word}: there is no ACS pin"), ""),
+            Some((_, pin)) => Ok((Action::Look, Some(Expected::Pin(*pin)))),
+            None => wrong(
+                format!("{word} is no state of the pin"),
+                "write pin=low, pin=high, pin=released, pin=square or pin=calibration",
+            ),
+        },
+        (_, Some(read)) => match byte_of(right, target) {
+            Ok(byte) => Ok((read, Some(Expected::Byte(byte)))),
+            Err(_) => wrong(
+                format!("{word} expects no byte"),
+                "write r=5A, with two hexadecimal digits",
+            ),
+        },
+        _ => wrong(
+            format!("{word}: of this no value is expected"),
+            "write r=5A for a byte that is read, A0+ or A0- for one that is written, or pin=low",
+        ),
+    }
+}
+
+/// Whether there is an ACS pin to look at.
+fn has_pin(target: Target) -> bool {
+    matches!(target, Target::One(part) if !part.has_counters())
+}
+
+/// Whether a word writes a byte; `c1` and `c2` are edges.
+fn is_byte(word: &str) -> bool {
+    !matches!(word, "c1" | "c2") && byte_of(word, Target::One(Part::Fm3130)).is_ok()
+}
+
+/// The read that a word asks for.
+fn read_of(word: &str) -> Option<Action> {
+    match word {
+        "r" => Some(Action::Read(Ninth::ByWhatFollows)),
+        "r+" => Some(Action::Read(Ninth::Acknowledge)),
+        "R" | "r-" => Some(Action::Read(Ninth::Release)),
+        _ => None,
+    }
+}
+
 /// What a word asks for; else a message and advice.
-fn meaning_of(word: &str, target: Target) -> Result<Action, (String, String)> {
+fn action_of(word: &str, target: Target) -> Result<Action, Wrong> {
     if let Some((pin @ ("c1" | "c2"), select)) = word.split_once('@') {
         return edge_of_device(word, pin, select, target);
     }
+    if let Some(read) = read_of(word) {
+        return Ok(read);
+    }
     match word {
         "c1" | "c2" => edge(word, target),
-        "r" => Ok(Action::Read(Ninth::ByWhatFollows)),
-        "r+" => Ok(Action::Read(Ninth::Acknowledge)),
-        "R" | "r-" => Ok(Action::Read(Ninth::Release)),
         "t" => Ok(Action::Tick),
         "lost" => Ok(Action::PowerLost),
         "gone" => Ok(Action::PowerGone),
@@ -287,7 +389,7 @@ fn meaning_of(word: &str, target: Target) -> Result<Action, (String, String)> {
 }
 
 /// An edge that names no device: that of the one part of a script.
-fn edge(word: &str, target: Target) -> Result<Action, (String, String)> {
+fn edge(word: &str, target: Target) -> Result<Action, Wrong> {
     match target {
         Target::One(part) if !part.has_counters() => Err(no_counters(word, part)),
         Target::One(_) if word == "c1" => Ok(Action::FirstEdge),
@@ -300,12 +402,7 @@ fn edge(word: &str, target: Target) -> Result<Action, (String, String)> {
 }
 
 /// An edge that names a device of a set by its select bits.
-fn edge_of_device(
-    word: &str,
-    pin: &str,
-    select: &str,
-    target: Target,
-) -> Result<Action, (String, String)> {
+fn edge_of_device(word: &str, pin: &str, select: &str, target: Target) -> Result<Action, Wrong> {
     let Target::Set(selects) = target else {
         let message = format!("{word} names a device of a set, and there is one part");
         let advice = format!("write {pin}, or make a set of parts such as --part fm3164@0");
@@ -330,7 +427,7 @@ fn list_of(selects: &[Select], begin: &str) -> String {
 }
 
 /// Two digits that look like a byte are an edge in every script, and never a byte by accident.
-fn no_counters(word: &str, part: Part) -> (String, String) {
+fn no_counters(word: &str, part: Part) -> Wrong {
     let (pin, byte) = (word.replace('c', "CNT"), word.to_uppercase());
     let message = format!("{word} is an edge on {pin}, and the {part} has no counters");
     let advice =
@@ -339,7 +436,7 @@ fn no_counters(word: &str, part: Part) -> (String, String) {
 }
 
 /// The byte that a word writes; else a message and advice.
-fn byte_of(word: &str, target: Target) -> Result<u8, (String, String)> {
+fn byte_of(word: &str, target: Target) -> Result<u8, Wrong> {
     let prefixed = word.strip_prefix("0x").or_else(|| word.strip_prefix("0X"));
     let digits = prefixed.unwrap_or(word);
     let is_number = !digits.is_empty() && digits.chars().all(|sign| sign.is_ascii_hexdigit());
@@ -353,7 +450,11 @@ fn byte_of(word: &str, target: Target) -> Result<u8, (String, String)> {
             Target::One(part) if part.has_counters() => KNOWN_WITH_EDGES,
             Target::One(_) => KNOWN_WORDS,
         };
-        return Err((format!("unknown word {word}"), known.to_string()));
+        let advice = match nearest(word, LONG_WORDS) {
+            Some(near) => format!("perhaps {near}; {known}"),
+            None => known.to_string(),
+        };
+        return Err((format!("unknown word {word}"), advice));
     }
     let fits = digits.len() == 2 || (digits.len() == 1 && prefixed.is_some());
     if !fits {
@@ -374,8 +475,20 @@ mod tests {
         super::parse(text, Part::Fm3130)
     }
 
-    fn once(action: Action) -> Item {
-        Item { action, times: 1 }
+    fn once(action: Action) -> (Action, u64) {
+        (action, 1)
+    }
+
+    /// The actions of some items, and how often each is done.
+    fn done(items: Vec<Item>) -> Vec<(Action, u64)> {
+        let pairs = items.into_iter();
+        pairs.map(|item| (item.action, item.times)).collect()
+    }
+
+    /// What the items of a text expect.
+    fn expected(text: &str) -> Vec<Option<Expected>> {
+        let items = parse(text).unwrap();
+        items.into_iter().map(|item| item.expected).collect()
     }
 
     /// Line, column and width of the problem in a text, and its message.
@@ -396,7 +509,7 @@ mod tests {
             once(Action::Read(Ninth::Release)),
             once(Action::Stop),
         ];
-        assert_eq!(items, expected);
+        assert_eq!(done(items), expected);
     }
 
     #[test]
@@ -442,7 +555,57 @@ mod tests {
         assert_eq!(place("a: a:8"), (4, "a is not one byte".to_string()));
         assert_eq!(place("a: c: ]"), (4, "c is not one byte".to_string()));
         // In a script of one master there are no turns.
-        assert_eq!(problem("a: [ ]").3, "a is not one byte");
+        assert_eq!(
+            problem("t\n b: [ ]"),
+            (2, 2, 2, "this begins a turn of two masters".to_string())
+        );
+        assert_eq!(problem("a:8").3, "a is not one byte");
+    }
+
+    #[test]
+    fn expectations_of_bytes_and_of_the_pin() {
+        assert_eq!(
+            expected("r=5A r+=0x7 R=c1:3 r-=FF A0+ 0xd0- FF+*3 r+ r- A0"),
+            [
+                Some(Expected::Byte(0x5A)),
+                Some(Expected::Byte(0x07)),
+                Some(Expected::Byte(0xC1)),
+                Some(Expected::Byte(0xFF)),
+                Some(Expected::Acknowledge(true)),
+                Some(Expected::Acknowledge(false)),
+                Some(Expected::Acknowledge(true)),
+                None,
+                None,
+                None,
+            ]
+        );
+        for (word, pin) in Expected::PINS {
+            let text = format!("t pin={word}");
+            assert_eq!(expected(&text), [None, Some(Expected::Pin(pin))]);
+        }
+        let items = parse("[ A1 r=00:7 ]").unwrap();
+        assert_eq!((items[2].times, items[2].place.column), (7, 6));
+        assert_eq!(items[2].place.width, 6);
+    }
+
+    #[test]
+    fn wrong_expectations_say_why() {
+        for (text, message) in [
+            ("r=5", "r=5 expects no byte"),
+            ("r=", "r= expects no byte"),
+            ("A0=5A", "A0=5A: of this no value is expected"),
+            ("pin=up", "pin=up is no state of the pin"),
+            ("pin=low:2", "the pin is looked at once"),
+            ("pin=low*1", "the pin is looked at once"),
+            ("t+", "unknown word t+"),
+            ("r=5A+", "r=5A+ expects no byte"),
+            ("A0++", "unknown word A0++"),
+            ("c1+", "unknown word c1+"),
+        ] {
+            assert_eq!(problem(text).3, message);
+        }
+        let counters = super::parse("pin=low", Part::Family(Size::Kb64)).unwrap_err();
+        assert_eq!(counters.message, "pin=low: there is no ACS pin");
     }
 
     #[test]
@@ -450,14 +613,11 @@ mod tests {
         let items = super::parse("c1 c2*5 C1 0xc2", Part::Family(Size::Kb256)).unwrap();
         let expected = [
             once(Action::FirstEdge),
-            Item {
-                action: Action::SecondEdge,
-                times: 5,
-            },
+            (Action::SecondEdge, 5),
             once(Action::Write(0xC1)),
             once(Action::Write(0xC2)),
         ];
-        assert_eq!(items, expected);
+        assert_eq!(done(items), expected);
         assert_eq!(
             problem("[ A0 c1 ]"),
             (
@@ -480,13 +640,10 @@ mod tests {
         let items = parse_for_set("c1@2 c2@0*5 C1", &selects).unwrap();
         let expected = [
             once(Action::EdgeOfDevice(edge_1(0))),
-            Item {
-                action: Action::EdgeOfDevice(edge_2(1)),
-                times: 5,
-            },
+            (Action::EdgeOfDevice(edge_2(1)), 5),
             once(Action::Write(0xC1)),
         ];
-        assert_eq!(items, expected);
+        assert_eq!(done(items), expected);
         let problem = |text: &str| {
             let problem = parse_for_set(text, &selects).expect_err(text);
             (problem.place.width, problem.message, problem.advice)
@@ -541,6 +698,8 @@ mod tests {
     #[test]
     fn problems_say_what_is_wrong() {
         assert_eq!(problem("lots").3, "unknown word lots");
+        let advice = parse("lots").unwrap_err().advice;
+        assert!(advice.starts_with("perhaps lost; known: [ ]"), "{advice}");
         assert_eq!(problem("A0D0").3, "A0D0 is not one byte");
         assert_eq!(problem("{2}").3, "a clock is 0 or 1");
         assert_eq!(problem("{0 # 1}").3, "a { without a } on its line");

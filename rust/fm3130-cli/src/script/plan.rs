@@ -3,7 +3,8 @@
 
 use fm3130::{event, family};
 
-use super::item::{Action, Item, Ninth};
+use super::item::{Action, Expected, Item, Ninth};
+use super::problem::Place;
 use crate::amount::Tally;
 
 /// Some events, done so many times.
@@ -15,19 +16,55 @@ pub struct Step {
     pub times: u64,
 }
 
+impl Step {
+    /// The number of events.
+    fn total(&self) -> u64 {
+        self.times.saturating_mul(self.events.len() as u64)
+    }
+}
+
+/// What a script expects, so many times, from one of its events on.
+#[derive(Clone, Copy, Debug, PartialEq, Eq)]
+pub struct Expectation {
+    /// The first event of the byte; for the pin, the one that it is looked at before. The first of a plan is 0.
+    pub first: u64,
+    /// For how many bytes, one after the other.
+    pub times: u64,
+    /// What is expected.
+    pub expected: Expected,
+    /// Where it is written.
+    pub place: Place,
+}
+
 /// The events of a script. A repeat stays a number, so that a long script is a small plan.
 #[derive(Clone, Debug, Default, PartialEq, Eq)]
 pub struct Plan {
     /// The steps in order.
     pub steps: Vec<Step>,
+    /// What is expected, in order.
+    pub expectations: Vec<Expectation>,
 }
 
 impl Plan {
     /// The plan of some items.
     pub fn of(items: &[Item]) -> Plan {
         let mut plan = Plan::default();
+        // The events of the steps so far, counted once each.
+        let (mut first, mut counted) = (0u64, 0);
         for (index, item) in items.iter().enumerate() {
+            let added = plan.steps[counted..].iter().map(Step::total);
+            first = added.fold(first, u64::saturating_add);
+            counted = plan.steps.len();
+            if let Some(expected) = item.expected {
+                plan.expectations.push(Expectation {
+                    first,
+                    times: item.times,
+                    expected,
+                    place: item.place,
+                });
+            }
             match item.action {
+                Action::Look => {}
                 Action::Read(ninth) => {
                     plan.read(
                         item.times,
@@ -43,20 +80,12 @@ impl Plan {
 
     /// The number of events.
     pub fn total(&self) -> u64 {
-        self.steps.iter().fold(0, |sum: u64, step| {
-            sum.saturating_add(step.times.saturating_mul(step.events.len() as u64))
-        })
+        total_of(&self.steps)
     }
 
     /// How many events of each kind there are.
     pub fn tally(&self) -> Tally {
-        let mut tally = Tally::default();
-        for step in &self.steps {
-            for event in &step.events {
-                tally.add(*event, step.times);
-            }
-        }
-        tally
+        tally_of(&self.steps)
     }
 
     fn add(&mut self, events: Vec<u8>, times: u64) {
@@ -74,6 +103,22 @@ impl Plan {
             self.add(event::read_byte(acknowledges_last).to_vec(), times);
         }
     }
+}
+
+/// The number of events of some steps.
+pub fn total_of(steps: &[Step]) -> u64 {
+    steps.iter().map(Step::total).fold(0, u64::saturating_add)
+}
+
+/// How many events of each kind some steps have.
+pub fn tally_of(steps: &[Step]) -> Tally {
+    let mut tally = Tally::default();
+    for step in steps {
+        for event in &step.events {
+            tally.add(*event, step.times);
+        }
+    }
+    tally
 }
 
 /// What the master does after the last byte of a read, by the items that follow it.
@@ -103,6 +148,7 @@ fn events_of(action: &Action) -> Vec<u8> {
         Action::FirstEdge => vec![family::event::EDGE_1],
         Action::SecondEdge => vec![family::event::EDGE_2],
         Action::EdgeOfDevice(event) => vec![*event],
+        Action::Look => Vec::new(),
     }
 }
 
@@ -156,6 +202,19 @@ mod tests {
         assert_eq!(ninths("r r"), [2, 2]);
         assert_eq!(ninths("r+ ] R r- r+"), [2, 3, 3, 2]);
         assert_eq!(ninths("r:2 R:2 ]"), [2, 2, 3, 3]);
+    }
+
+    #[test]
+    fn expectations_know_their_first_event() {
+        let items = parse("[ A0+ r=5A:3 t pin=low ] pin=high", Part::Fm3130).unwrap();
+        let plan = Plan::of(&items);
+        let places: Vec<(u64, u64)> = plan
+            .expectations
+            .iter()
+            .map(|one| (one.first, one.times))
+            .collect();
+        assert_eq!(places, [(1, 1), (10, 3), (38, 1), (39, 1)]);
+        assert_eq!(plan.total(), 39);
     }
 
     #[test]

@@ -10,11 +10,12 @@ mod picture;
 use fm3130::masters::{self, Handle, Master};
 use fm3130::{event, Device, Refusal};
 
-use crate::bus;
+use crate::bus::{self, Outputs};
 use crate::chip::Chip;
+use crate::expecting::Holding;
 use crate::failure::{Failure, Outcome};
 use crate::output::Output;
-use crate::script::{Plan, Turn};
+use crate::script::{Expectation, Plan, Problem, Turn};
 use crate::source::PlanSource;
 use crate::transcript::Transcript;
 use crate::words;
@@ -57,11 +58,13 @@ pub fn test_lengths(turns: &[Turn]) -> Outcome {
     }
 }
 
-/// Plays all turns, whose lengths are tested, on a device; says what happened where somebody listens.
+/// Plays all turns, whose lengths are tested, on a device; says what happened where somebody listens. What the turns
+/// expect is held, and what was not met is noted.
 pub fn play(
     device: Device,
     turns: &[Turn],
     mut output: Option<&mut Output>,
+    unmet: &mut Vec<Problem>,
 ) -> Outcome<Vec<Played>> {
     let (rig, handheld) = masters::share(device);
     let mut all = Vec::new();
@@ -73,6 +76,7 @@ pub fn play(
         let plan = Plan::of(&turn.items);
         let before = handle.device();
         let played = play_turn(handle, turn, &plan);
+        unmet.extend(unmet_in(&played, &before, &plan)?);
         if let Some(output) = output.as_deref_mut() {
             say(&played, before, plan, output)?;
         }
@@ -104,6 +108,33 @@ fn play_turn(handle: &Handle, turn: &Turn, plan: &Plan) -> Played {
     }
 }
 
+/// What a turn expects and did not come about: of a refused one everything.
+fn unmet_in(played: &Played, before: &Device, plan: &Plan) -> Outcome<Vec<Problem>> {
+    let expectations = &plan.expectations;
+    if let Err(refusal) = played.answered {
+        let refused = |one: &Expectation| {
+            let words = format!("expected something, and the turn is refused: {refusal}");
+            Problem::new(one.place, words, "")
+        };
+        return Ok(expectations.iter().map(refused).collect());
+    }
+    if expectations.is_empty() {
+        return Ok(Vec::new());
+    }
+    let mut chip = Chip::from(before.clone());
+    let mut holding = Holding::new(expectations, chip.state().pin());
+    let mut outputs = Outputs {
+        observers: vec![&mut holding],
+        prints: false,
+        answers: None,
+        recording: None,
+        lamps: None,
+    };
+    let mut source = PlanSource::new(plan.steps.clone());
+    bus::play(&mut chip, &mut source, &mut outputs)?;
+    Ok(holding.into_held().unmet)
+}
+
 /// The events of a turn, as one list.
 fn events_of(plan: &Plan) -> Vec<u8> {
     let steps = plan.steps.iter();
@@ -124,7 +155,7 @@ fn say(played: &Played, before: Device, plan: Plan, output: &mut Output) -> Outc
     }
     let mut chip = Chip::from(before);
     let mut transcript = Transcript::new(output);
-    bus::play_to(&mut transcript, &mut chip, &mut PlanSource::new(plan))?;
+    bus::play_to(&mut transcript, &mut chip, &mut PlanSource::new(plan.steps))?;
     output.line(&format!("        bus: {}", held_by(played.after)))
 }
 
