@@ -18,7 +18,9 @@ ARCHIVES := rig view single line narrow mend sleep master handheld capture provi
 # Where `make install` puts the library; DESTDIR goes before it.
 PREFIX ?= /usr/local
 
-CARGO_TEST := cargo test --offline --release --quiet
+# What says nothing for long is said to be under way.
+CARGO_TEST := tools/patient.sh 'being compiled and tested' cargo test --offline --release --quiet
+COMPILE_COMMAND := tools/patient.sh 'being compiled' cargo build --offline --release --quiet --package fm3130-cli
 # Debian's own, which has its packages; nothing is written beside the sources.
 PYTHON := /usr/bin/python3 -B
 FM3130 := cargo run --offline --release --quiet --package fm3130-cli --
@@ -28,7 +30,6 @@ MACHINE := $(shell uname -m)
 CC_X86_64 := $(if $(filter x86_64,$(MACHINE)),$(CC),x86_64-linux-gnu-gcc)
 STRICT := -O2 -Wall -Wextra -Wpedantic -Werror -Iinclude
 C99 := -std=c99 $(STRICT)
-VERSION := $(shell sed -n 's/^.define FM3130_VERSION "\(.*\)"$$/\1/p' include/fm3130.h)
 HOST := build/host/fm3130-host
 SESSION := scripts/proving-session.bus
 COUNTING := scripts/counting.bus
@@ -39,14 +40,11 @@ FRAMES := crates/standin/stdin crates/standin/stdout
 # The firmware's part that is tested on this machine too, with a bit-banging master.
 PINS := -Ifirmware -Itests/wires firmware/pins.c tests/wires/*.c
 
-# Prints fm3130.pc for a folder of headers and a folder of libraries.
-pkg_config = sed -e 's|@INCLUDE@|$(1)|' -e 's|@LIB@|$(2)|' -e 's|@VERSION@|$(VERSION)|' include/fm3130.pc.in
-
 # How long `make fuzz` runs each of its targets.
 SECONDS := 200
 
-.PHONY: help test tests check demo lib archives install host ctest python python-test second compare quotations edits \
-	all-edits twins web web-test controller bench counts fuzz fmt fmt-check setup clean
+.PHONY: help test tests check demo lib library archives dist dist-check install command host ctest python python-test \
+	second compare quotations edits all-edits twins web web-test controller bench counts fuzz fmt fmt-check setup setup-library clean
 
 help: ## list these targets
 	@awk -F':.*## ' '/^[a-z-]+:.*## / { printf "make %-11s %s\n", $$1, $$2 }' Makefile
@@ -55,15 +53,18 @@ help: ## list these targets
 test: setup ## everything: set-up, all proofs from nothing (rt ci), the tests in C, Python and Rust on what was just proved
 	@tools/test.sh
 
-tests: lib ctest python-test ## the tests in C, Python and Rust alone
+tests: lib dist-check ctest python-test ## the tests in C, Python and Rust alone
 	@$(CARGO_TEST)
 
 check: ## prove the crates that changed, and run the programs
 	@rt check
 
-demo: setup lib host ## play a proving session through the C host, in words, and draw its wires and its lamps
+demo: host ## play a proving session through the C host, in words, and draw its wires and its lamps
 	@mkdir -p build/demo
 	@$(HOST) --session --save-events build/demo/events --answers build/demo/answers | tee build/demo/proving-session.txt
+	@printf '\nThe command fm3130 plays the same, once it is compiled:\n'
+	@tools/setup.sh command
+	@$(COMPILE_COMMAND)
 	@$(FM3130) run $(SESSION) --quiet --answers build/demo/script-answers \
 		--vcd build/demo/proving-session.vcd --svg build/demo/proving-session.svg
 	@cmp build/demo/answers build/demo/script-answers
@@ -75,39 +76,52 @@ demo: setup lib host ## play a proving session through the C host, in words, and
 		'proving-session.vcd  the wires, for GTKWave or PulseView' 'lamps.txt            the lamps after each byte' \
 		'lamps.svg            the lamps below the wires, for a browser'
 
-lib: archives ## the proved archives: build/native (this machine), build/official (x86-64); for C and Python: build/lib
-	@for folder in build/native build/official; do tools/join-archives.sh "$$folder" $(ARCHIVES); done
-	@mkdir -p build/lib/x86_64
-	@cp build/official/libfm3130.a build/lib/x86_64/libfm3130.a
-	@cp $(if $(filter x86_64,$(MACHINE)),build/official,build/native)/libfm3130.a build/lib/libfm3130.a
-	@tools/shared-library.sh build/lib/libfm3130.a $(VERSION) $(CC)
-	@$(call pkg_config,$${pcfiledir}/../../include,$${pcfiledir}) >build/lib/fm3130.pc
+# All that is built with the library takes it from build/lib.
+library: setup-library ## the library for C, Rust and Python, in build/lib: the one that `make lib` proved here, or else that of dist/
+	@tools/library.sh --or-prove
+
+lib: archives ## prove the library: build/native (this machine), build/official (x86-64); then as `make library`
+	@for folder in build/native build/official; do \
+		tools/join-archives.sh "$$folder" $(ARCHIVES); tools/sources.sh >"$$folder/SOURCES"; done
+	@tools/library.sh
+
+# What the gate proves is compared with dist/, byte for byte; nothing else is compiled for that.
+dist: lib ## make dist/ anew from the proved crates: the library for each machine, the module and the page for browsers
+	@tools/dist.sh $(ARCHIVES)
+
+dist-check: lib
+	@tools/dist.sh check $(ARCHIVES)
 
 archives:
 	@tools/native-archives.sh $(ARCHIVES)
 
-install: lib ## the library for C: headers, archive and fm3130.pc below DESTDIR and PREFIX
+install: library ## the library for C: headers, archive and fm3130.pc below DESTDIR and PREFIX
 	@install -d "$(DESTDIR)$(PREFIX)/include" "$(DESTDIR)$(PREFIX)/lib/pkgconfig"
 	@install -m 644 include/fm3130.h include/fm31.h "$(DESTDIR)$(PREFIX)/include/"
 	@install -m 644 build/lib/libfm3130.a "$(DESTDIR)$(PREFIX)/lib/libfm3130.a"
-	@$(call pkg_config,$(PREFIX)/include,$(PREFIX)/lib) >"$(DESTDIR)$(PREFIX)/lib/pkgconfig/fm3130.pc"
+	@tools/pkg-config.sh $(PREFIX)/include $(PREFIX)/lib >"$(DESTDIR)$(PREFIX)/lib/pkgconfig/fm3130.pc"
 	@echo "installed below $(DESTDIR)$(PREFIX): include/fm3130.h and fm31.h, lib/libfm3130.a, lib/pkgconfig/fm3130.pc"
 
-host: lib ## the rig's host program in C: build/host/fm3130-host
-	@mkdir -p build/host
-	@$(CC) $(C99) -D_POSIX_C_SOURCE=200809L host/*.c build/native/libfm3130.a -o $(HOST)
+command: library ## the command fm3130: build/cargo/release/fm3130
+	@tools/setup.sh command
+	@$(COMPILE_COMMAND)
 
-ctest: lib host ## the archives through the C headers (the official one too), the host, the guide's programs
+host: library ## the rig's host program in C: build/host/fm3130-host
+	@mkdir -p build/host
+	@$(CC) $(C99) -D_POSIX_C_SOURCE=200809L host/*.c build/lib/libfm3130.a -o $(HOST)
+
+ctest: library host ## the archives through the C headers (the official one too), the host, the guide's programs
 	@mkdir -p build/ctest
-	@$(CC) $(C99) $(PINS) tests/c/*.c build/native/libfm3130.a -o build/ctest/native
-	@$(CC_X86_64) $(C99) $(PINS) -static tests/c/*.c build/official/libfm3130.a -o build/ctest/official
+	@$(CC) $(C99) $(PINS) tests/c/*.c build/lib/libfm3130.a -o build/ctest/native
+	@$(CC_X86_64) $(C99) $(PINS) -static tests/c/*.c build/lib/x86_64/libfm3130.a -o build/ctest/official
 	@$(CXX) $(STRICT) tests/c/plusplus.cc build/lib/libfm3130.a -o build/ctest/plusplus
 	@$(CC_X86_64) $(C99) -m32 -ffreestanding -fsyntax-only -x c include/fm31.h
 	@build/ctest/native $(FRAMES)
 	@tools/run-x86-64.sh build/ctest/official $(FRAMES)
 	@build/ctest/plusplus
-	@tests/c/alone.sh build/ctest/alone build/native/libfm3130.a $(CC)
-	@tests/c/alone.sh build/ctest/alone build/official/libfm3130.a $(CC_X86_64)
+	@tests/c/library.sh build/ctest/library
+	@tests/c/alone.sh build/ctest/alone build/lib/libfm3130.a $(CC)
+	@tests/c/alone.sh build/ctest/alone build/lib/x86_64/libfm3130.a $(CC_X86_64)
 	@tests/c/host.sh $(HOST) build/ctest/host
 	@tests/c/guide.sh build/ctest/guide $(CC) $(C99)
 	@tests/c/numbers.sh build/ctest $(CC) $(C99)
@@ -118,27 +132,27 @@ ctest: lib host ## the archives through the C headers (the official one too), th
 	@cmp build/ctest/counting.events build/ctest/host/counting.events
 	@cmp build/ctest/counting.answers build/ctest/host/counting.answers
 
-python: lib ## the package for Python with its library, which needs no other file: build/python, for PYTHONPATH or pip
+python: library ## the package for Python with its library, which needs no other file: build/python, for PYTHONPATH or pip
 	@rm -rf build/python
 	@mkdir -p build/python/fm3130
 	@cp python/pyproject.toml build/python/
 	@cp python/fm3130/*.py python/fm3130/py.typed build/lib/libfm3130.so build/python/fm3130/
 	@echo "build/python: PYTHONPATH=$(CURDIR)/build/python"
 
-python-test: lib ## the tests of the package for Python, its examples and the guide's
+python-test: library ## the tests of the package for Python, its examples and the guide's
 	@tools/setup.sh python
 	@cd python && FM3130_LIBRARY="$(CURDIR)/build/lib/libfm3130.so" PYTHONPATH="$(CURDIR)/python" $(PYTHON) -m pytest --quiet
 
 second: ## the tests of the second program, which is written apart from the crates
 	@$(CARGO_TEST) --package second
 
-compare: lib ## the proved program and the second program, side by side
+compare: library ## the proved program and the second program, side by side
 	@$(CARGO_TEST) --package compare
 
-quotations: lib ## compare/quotations.sums: every quotation is looked up in the papers, which are in ../shared
+quotations: library ## compare/quotations.sums: every quotation is looked up in the papers, which are in ../shared
 	@cargo run --offline --release --quiet --package compare --bin write_quotations
 
-edits: lib ## docs/EDITS.md, from what the prover last said of each edit (rt must-fail, rt ci, make all-edits)
+edits: library ## docs/EDITS.md, from what the prover last said of each edit (rt must-fail, rt ci, make all-edits)
 	@cargo run --offline --release --quiet --package compare --bin write_edits
 
 # More than an hour on two cores, so `make test` tries those of crates/*/must-fail alone.
@@ -149,12 +163,8 @@ all-edits: ## try every edit, the further ones of edits/ too
 twins: check ## try the twins: devices with a rule wrong in definition and code alike, each refused by a law alone
 	@tools/twins.py
 
-web: lib ## the device for browsers and Node: build/web, with one page that needs no other file, fm3130.html
-	@tools/setup.sh node
-	@tools/web-module.sh build/web/fm3130.wasm $(ARCHIVES)
-	@cp web/fm3130.mjs build/web/fm3130.mjs
-	@node tools/web-page.mjs build/web/fm3130.wasm build/web/fm3130.html
-	@ls -l build/web | awk 'NF > 8 { printf "build/web/%s: %d bytes\n", $$9, $$5 }'
+web: library ## the device for browsers and Node: build/web, with one page that needs no other file, fm3130.html
+	@tools/web.sh $(ARCHIVES)
 
 # Not part of `make test`: it needs a browser.
 web-test: web ## the tests of the module, of the page beside the command, and of the page in a headless browser
@@ -170,13 +180,13 @@ controller: lib ## archives for controllers (build/controller), tested on emulat
 	@tools/controller.sh test
 
 # Neither of the next two is part of `make test`: times differ from machine to machine, and a search has no end.
-bench: lib ## the proved list run timed beside plain programs; the tables also go to build/bench/SPEED.md
+bench: library ## the proved list run timed beside plain programs; the tables also go to build/bench/SPEED.md
 	@tools/setup.sh bench
 	@mkdir -p build/bench
 	@cargo run --offline --release --quiet --package bench | tee build/bench/SPEED.md
 
 # The counts are those of x86-64; on another machine there is nothing to hold.
-counts: lib ## the proved archive's instructions, held to those that docs/SPEED.md stores
+counts: library ## the proved archive's instructions, held to those that docs/SPEED.md stores
 ifeq ($(MACHINE),x86_64)
 	@tools/setup.sh bench
 	@cargo run --offline --release --quiet --package bench -- --hold docs/SPEED.md
@@ -184,7 +194,7 @@ else
 	@echo "counts: docs/SPEED.md stores those of x86-64; this machine is $(MACHINE)"
 endif
 
-fuzz: lib ## chosen bytes at the archive's C boundary, five targets for SECONDS=200 each
+fuzz: library ## chosen bytes at the archive's C boundary, five targets for SECONDS=200 each
 	@tools/setup.sh fuzz
 	@tools/fuzz.sh $(SECONDS) entries
 	@tools/fuzz.sh $(SECONDS) captures
@@ -202,6 +212,9 @@ fmt-check: ## say which files are not in the layout
 
 setup: ## install what is missing for `make test`
 	@tools/setup.sh
+
+setup-library:
+	@tools/setup.sh library
 
 clean: ## remove all that was built
 	@rm -rf target build

@@ -57,13 +57,17 @@ done
 
 for target in $controller_targets; do
     mkdir -p "$work/$target" "$built/$target"
+    objects=''
     for crate in "$@"; do
         # shellcheck disable=SC2046 # one word an option
         compile_module "build/bitcode/$crate.bc" "$work/$target/$crate.o" $(options_for "$target")
         size "$work/$target/$crate.o" |
-            awk -v target="$target" -v crate="$crate" 'NR == 2 { print target, crate, $1, $2 + $3 }'
-    done >>"$built/sizes.txt"
-    "$tools/llvm-ar" rcs "$built/$target/libfm3130.a" "$work/$target"/*.o
+            awk -v target="$target" -v crate="$crate" 'NR == 2 { print target, crate, $1, $2 + $3 }' >>"$built/sizes.txt"
+        objects="$objects $work/$target/$crate.o"
+    done
+    # shellcheck disable=SC2086 # one word an object, in the order of the crates on every machine
+    "$tools/llvm-ar" rcs "$built/$target/libfm3130.a" $objects
+    echo "controller-archives: $# modules compiled for $target"
 done
 echo "$sum" >"$built/stamp"
-echo "controller-archives: $built made for $controller_targets from the proved modules of $*"
+echo "controller-archives: $built made for $controller_targets"

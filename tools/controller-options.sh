@@ -7,9 +7,10 @@
 # riscv32: RV32IMAC.
 controller_targets=${TARGETS:-thumbv7em thumbv7emhf thumbv6m riscv32}
 
-# The options that name a target to the kit's compiler.
+# The options that name a target to the kit's compiler. Of arm64 under Linux they are those of tools/native-archive.sh.
 options_for() { # TARGET
     case $1 in
+    aarch64) echo --target=aarch64-linux-gnu -fPIC ;;
     thumbv7em) echo --target=thumbv7em-none-eabi -mfloat-abi=soft ;;
     thumbv7emhf) echo --target=thumbv7em-none-eabihf -mfloat-abi=hard -mfpu=fpv4-sp-d16 ;;
     thumbv6m) echo --target=thumbv6m-none-eabi -mfloat-abi=soft ;;

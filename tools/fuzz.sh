@@ -35,9 +35,9 @@ beside)
 *) usage ;;
 esac
 cd "$(dirname "$0")/.."
-archive=build/native/libfm3130.a
+archive=build/lib/libfm3130.a
 log=$out/log.txt
-[ -f "$archive" ] || fail "$archive is missing; make it by \`make lib\`"
+[ -f "$archive" ] || fail "$archive is missing; make it by \`make library\`"
 
 mkdir -p "$out/corpus" "$out/found"
 # shellcheck disable=SC2086 # the sources are several words

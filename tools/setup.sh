@@ -1,14 +1,14 @@
 #!/bin/sh
 # SPDX-License-Identifier: Apache-2.0
-# setup.sh [bench|controller|fuzz|node|python|web]: sees that all that `make test` needs is on this Debian machine, and
-# installs what is missing; with a word also what the measurements, the emulated controllers, the fuzzer,
-# the page (node) or its tests in a browser (web) need; what `python` needs is part of the set-up without a word too.
-# It says nothing and needs no network where all is there. The Rattle kit itself is in no package: without `rt` it stops.
+# setup.sh [bench|command|controller|fuzz|library|python|web]: sees that all that `make test` needs is on this Debian machine,
+# and installs what is missing. With a word: what the library of dist/ (library) and the command need, the measurements, the
+# emulated controllers, the fuzzer, the tests of the package for Python, or those of the page in a browser (web). It says nothing
+# and needs no network where all is there. The Rattle kit itself is in no package: what needs `rt` stops without it.
 set -eu
 
 fail() { printf 'setup: %s\n' "$*" >&2; exit 1; }
 
-"$(dirname "$0")/kit.sh" >/dev/null
+case ${1:-} in '' | controller) "$(dirname "$0")/kit.sh" >/dev/null ;; esac
 
 missing=''
 # Notes PACKAGE as missing unless COMMAND is there.
@@ -34,22 +34,35 @@ need_python() { # MODULE PACKAGE
 }
 
 need make make
-need cargo cargo
-need rustc rustc
 need cc gcc
-need c++ g++ # to see that the header for C is one for C++ too
-need_static_libc cc libc6-dev
-if [ "$(uname -m)" != x86_64 ]; then
-    # to link a program with the official archive, which is for x86-64
-    need x86_64-linux-gnu-gcc gcc-x86-64-linux-gnu
-    need_static_libc x86_64-linux-gnu-gcc libc6-dev-amd64-cross
-fi
 case ${1:-} in
-'' | python)
+library) ;;
+*)
+    need cargo cargo
+    need rustc rustc
+    ;;
+esac
+
+# What the tests of the package for Python need.
+need_pytest() {
     need /usr/bin/python3 python3
     need_python pytest python3-pytest
     need_python smbus2 python3-smbus2 # to see that the package has its methods
+}
+
+case ${1:-} in
+'')
+    need c++ g++ # to see that the header for C is one for C++ too
+    need_static_libc cc libc6-dev
+    if [ "$(uname -m)" != x86_64 ]; then
+        # to link a program with the official archive, which is for x86-64
+        need x86_64-linux-gnu-gcc gcc-x86-64-linux-gnu
+        need_static_libc x86_64-linux-gnu-gcc libc6-dev-amd64-cross
+    fi
+    need_pytest
     ;;
+library | command) ;;
+python) need_pytest ;;
 bench) need valgrind valgrind ;;
 controller)
     need qemu-system-arm qemu-system-arm
@@ -60,14 +73,13 @@ fuzz)
     need clang clang
     need_fuzzer libclang-rt-14-dev # of Debian 12's clang
     ;;
-node) need node nodejs ;;
 web)
     need node nodejs
     need chromium chromium
     need chromedriver chromium-driver
     need_python selenium python3-selenium
     ;;
-*) fail "usage: setup.sh [bench|controller|fuzz|node|python|web]" ;;
+*) fail "usage: setup.sh [bench|command|controller|fuzz|library|python|web]" ;;
 esac
 
 [ -n "$missing" ] || exit 0

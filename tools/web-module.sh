@@ -37,6 +37,7 @@ compile_for() { # MACHINE MODULE OBJECT OPTION...
     ! grep -v 'is not a recognized processor for this target' "$work/said" >&2 || fail "$module: $machine: see above"
 }
 
+objects=''
 for crate in "$@"; do
     module=build/bitcode/$crate.bc
     [ -f "$module" ] && [ -f "build/official/lib$crate.a" ] || fail "$module is missing; make it by \`make lib\`"
@@ -44,11 +45,13 @@ for crate in "$@"; do
     "$tools/llvm-ar" p "build/official/lib$crate.a" >"$work/official.o"
     cmp -s "$work/x86_64.o" "$work/official.o" || fail "$module compiled for x86-64 is not the official object"
     compile_for wasm32-unknown-unknown "$module" "$work/$crate.wasm.o"
+    objects="$objects $work/$crate.wasm.o"
 done
 
 # The kit's one program is a linker for WebAssembly too, where it is called by that name.
 ln -s "$tools/ld.lld" "$work/wasm-ld"
+# shellcheck disable=SC2086 # one word an object, in the order of the crates on every machine
 "$work/wasm-ld" --no-entry --stack-first -z stack-size=65536 --export-dynamic --export=__heap_base --strip-all \
-    "$work"/*.wasm.o -o "$work/joined.wasm" || fail "the modules cannot be linked together"
+    $objects -o "$work/joined.wasm" || fail "the modules cannot be linked together"
 mkdir -p "$(dirname "$target")"
 cmp -s "$work/joined.wasm" "$target" || install -m 644 "$work/joined.wasm" "$target"

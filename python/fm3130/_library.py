@@ -130,7 +130,7 @@ def library() -> ctypes.CDLL:
             return _declare(ctypes.PyDLL(place))
         except (OSError, AttributeError) as error:
             said.append(str(error))
-    advice = "`make lib` makes build/lib/libfm3130.so; the variable FM3130_LIBRARY names another place"
+    advice = "`make library` makes build/lib/libfm3130.so; the variable FM3130_LIBRARY names another place"
     raise ImportError("fm3130: no library: " + "; ".join(said) + ". " + advice)
 
 

@@ -174,7 +174,7 @@ def test_a_library_that_is_not_there_is_told():
     told = subprocess.run(program, env=environment, capture_output=True, text=True)
     assert told.returncode != 0
     assert "ImportError: fm3130: no library: /nowhere/libfm3130.so" in told.stderr
-    assert "make lib" in told.stderr
+    assert "make library" in told.stderr
 
 
 def test_every_file_names_its_licence():

@@ -1,6 +1,6 @@
 // SPDX-License-Identifier: Apache-2.0
 /**
- * The page: a script and a device on which it is played. EXAMPLES and MODULE are put in by tools/web-page.mjs: the
+ * The page: a script and a device on which it is played. EXAMPLES and MODULE are put in by tools/web-page.py: the
  * scripts of scripts/ by name, and the bytes of fm3130.wasm in base 64.
  */
 import { event, load } from '../fm3130.mjs';
