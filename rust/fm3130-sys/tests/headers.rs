@@ -1,5 +1,5 @@
 // SPDX-License-Identifier: Apache-2.0
-//! The table of this crate, the headers for C and the page's calls speak of the same functions.
+//! The table of this crate, the headers for C and the page's calls speak of the same functions, and all have one version.
 
 use std::collections::BTreeMap;
 use std::fs;
@@ -152,4 +152,42 @@ fn the_page_calls_what_the_headers_have() {
         calls += 1;
     }
     assert!(calls >= 15, "{calls} calls are few");
+}
+
+/// The packages of the workspace, as its top names them.
+fn packages() -> Vec<String> {
+    let workspace = text_of("Cargo.toml");
+    let members = workspace
+        .lines()
+        .find_map(|line| line.strip_prefix("members = "));
+    let names = members.expect("members").split('"').skip(1).step_by(2);
+    names.map(str::to_string).collect()
+}
+
+#[test]
+fn there_is_one_version() {
+    let version = env!("CARGO_PKG_VERSION");
+    let mut lines = vec![
+        (
+            "include/fm3130.h".to_string(),
+            format!("#define FM3130_VERSION \"{version}\""),
+        ),
+        (
+            "python/pyproject.toml".to_string(),
+            format!("version = \"{version}\""),
+        ),
+        (
+            "python/fm3130/__init__.py".to_string(),
+            format!("__version__ = \"{version}\""),
+        ),
+    ];
+    for package in packages() {
+        let line = "version.workspace = true".to_string();
+        lines.push((format!("{package}/Cargo.toml"), line));
+    }
+    assert!(lines.len() > 7, "{} files are few", lines.len());
+    for (file, line) in lines {
+        let is_there = text_of(&file).lines().any(|it| it == line);
+        assert!(is_there, "{file} has no line {line}");
+    }
 }
