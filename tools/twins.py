@@ -3,8 +3,8 @@
 r"""twins.py [NAME...]: tries the twins of twins/, or those named: devices with a rule that is wrong in definition and code alike.
 
 Nothing but a law in other words can refuse a twin, so it passes this test only if every crate below the law is proved with it and
-the law is not: the crate that its head names is the first that fails, and each law named is among its errors. A twin is a text:
-lines of `#` first, among them
+the law is not: the crate that its head names is the first that fails, by no proof of code, and each law named is among its errors. A
+twin is a text: lines of `#` first, among them
 
     # Refused by: CRATE, `LAW` (proofs/FILE.antt).
     # Prove: CRATE
@@ -59,6 +59,8 @@ class Twin:
             return "it was proved: no law refuses it"
         if unproved[0] != self.law:
             return f"{unproved[0]} refused it, before {self.law}"
+        if re.search(r"/Proof\.antt:\d+:\d+: error", said):
+            return f"its code does not meet its definition in {self.law}"
         spared = [law for law in self.laws if f"error: `{law}`" not in said]
         if spared:
             return f"{self.law} refused it, but not by {', '.join(spared)}"

@@ -2,14 +2,14 @@
 -- Which entries are faulty: the tests of an entry, taken apart and put together again.
 -- Assumes nothing.
 use Prim.Native.Nat.{ℕ, zero, suc, _+_, _*_, _≤_, _<_}
-use mathlib.Core.Path.{_≡_, refl, sym, ap, _∙_}
-use mathlib.Core.Bool.{Bool, true, false, cond, not, _&&_, _||_, false≢true}
+use mathlib.Core.Path.{_≡_, refl, sym, _∙_}
+use mathlib.Core.Bool.{Bool, true, false, not, _||_, false≢true}
 use mathlib.Core.List.{List, [], _∷_}
 use native.Mathlib.Omega.{arith}
 use native.Mathlib.Nat.{not-suc-le-zero}
 use lib.Dec.{leb, ltb, eqb}
 use lib.ListN.{length}
-use borrow.Author.Tests.{eqb-true, eqb-false, eq-eqb, ne-eqb, leb-true, leb-false, le-leb, lt-leb, lt-ltb, le-ltb, ltb-true, ltb-false, not-true}
+use borrow.Author.Tests.{eqb-true, eqb-false, eq-eqb, ne-eqb, leb-true, leb-false, le-leb, lt-leb, lt-ltb, le-ltb, ltb-true, ltb-false, not-true, not-false}
 use Rattle.wire.proofs.Tests.{by-test, and-split, and-join}
 use Rattle.device.specs.declared.State.{State}
 use Rattle.image.specs.Image.{decodeOf}
@@ -21,21 +21,12 @@ use Rattle.lists.specs.Run.{allKnown}
 use Rattle.contents.specs.Table.{wordAt, entryAt, overlap, isState, isAccepted, bodyOf, standsIn, uneven, clashes, clashesBelow, isSound}
 use Rattle.contents.specs.Sections.{firstFaulty}
 use Rattle.contents.specs.declared.Entry.{Entry}
+use Rattle.contents.proofs.Sound.{or-split}
 use Rattle.capture.specs.Verdict.{limit, verdictOf, compared, rightAnswers}
 use Rattle.capture.specs.Faults.{kind, offset, size, body, EachKnown, Faultless, SoundExactly, FaultFirst, TooLongExactly}
-use Rattle.capture.specs.declared.Verdict.{Verdict}
-use Rattle.capture.specs.declared.Verdict.the-variants.{Agree, Differs, Faulty, TooLong}
+use Rattle.capture.specs.declared.Verdict.the-variants.{Differs, Faulty, TooLong}
 
--- the entry of the table is the three numbers
-entry-is : (f : List ℕ) (n : ℕ) → entryAt f n ≡ record { kind = kind f n; from = offset f n; size = size f n }
-unfolding entryAt wordAt
-entry-is f n = refl
-
--- a test that fails, and its parts
-or-split : (a b : Bool) → (a || b) ≡ false → (a ≡ false) × (b ≡ false)
-or-split true b e = absurd (false≢true (sym e))
-or-split false b e = (refl, e)
-
+-- two tests that both fail
 or-join : (a b : Bool) → a ≡ false → b ≡ false → (a || b) ≡ false
 or-join a b p q = rw (p, q)
 
@@ -116,12 +107,8 @@ agrees e d h =
       apart = λ p q r. overlap-apart (d .from) (d .size) (e .from) (e .size) (b .1) q p r;
       even = λ p q.
           let z : not (eqb (e .size) (d .size)) ≡ false = rw (le-leb 3 (e .kind) p, le-leb 3 (d .kind) q) at (a .1) in
-          eqb-true (e .size) (d .size) (not-false′ (eqb (e .size) (d .size)) z);
+          eqb-true (e .size) (d .size) (not-false (eqb (e .size) (d .size)) z);
     }
-  where
-    not-false′ : (t : Bool) → not t ≡ false → t ≡ true
-    not-false′ true e = refl
-    not-false′ false e = absurd (false≢true (sym e))
 
 agreed : (e d : Entry) → Agrees e d → clashes e d ≡ false
 unfolding clashes

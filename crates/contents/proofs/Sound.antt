@@ -23,7 +23,7 @@ pub clash-more : (f : List ℕ) (e : Entry) (i : ℕ) (any : Bool) → any ≡ c
 unfolding clashesBelow
 clash-more f e i any h = rw (add-one i, h)
 
-or-split : (a b : Bool) → (a || b) ≡ false → (a ≡ false) × (b ≡ false)
+pub or-split : (a b : Bool) → (a || b) ≡ false → (a ≡ false) × (b ≡ false)
 or-split true b e = absurd (false≢true (sym e))
 or-split false b e = (refl, e)
 

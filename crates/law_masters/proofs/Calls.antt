@@ -2,24 +2,23 @@
 -- Who may do which events: the six standings of holder and caller one by one; the events by their bytes.
 -- Assumes nothing.
 use Prim.Native.Nat.{ℕ, zero, suc, _≤_, _<_}
-use mathlib.Core.Path.{_≡_, refl, sym, ap, _∙_}
-use mathlib.Core.Bool.{Bool, true, false, not, _&&_, _||_}
+use mathlib.Core.Path.{_≡_, refl, ap}
+use mathlib.Core.Bool.{true, false, or-true}
 use mathlib.Core.List.{List, [], _∷_, _++_}
 use native.Mathlib.Omega.{arith}
 use lib.Dec.{leb}
 use borrow.Author.Tests.{le-leb, lt-leb}
 use Rattle.wire.proofs.Tests.{and-join}
-use Rattle.weights.proofs.Cases.{Below, none, _then_, below}
 use Rattle.device.specs.Event.{happening}
 use Rattle.image.specs.declared.Decoded.the-variants.{Good}
 use Rattle.image.specs.Image.{decodeOf}
 use Rattle.image.proofs.Images.{settled-decode}
-use Rattle.lists.specs.Run.{allKnown, outcomeOf}
+use Rattle.lists.specs.Run.{allKnown}
 use Rattle.holding.specs.Bus.{holds, masterOf, holderOf, anyBus, isBus, mayCall, standingOf}
 use Rattle.holding.specs.declared.Standing.the-variants.{Known}
 use Rattle.holding.proofs.Known.{standing-known}
 use Rattle.holding.proofs.Lists.{bus-byte}
-use Rattle.handheld.specs.Outcome.{CallOutcome, callOf}
+use Rattle.handheld.specs.Outcome.{CallOutcome}
 use Rattle.handheld.proofs.Ways.{call-not-held, call-ran}
 use Rattle.law_masters.specs.Each.{Each, Handed}
 use Rattle.law_masters.specs.Calls.{NotHeld, Neither, Holding}
@@ -32,11 +31,7 @@ known (e ∷ es) h = and-join (leb e 7) (allKnown es) (le-leb e 7 (h .0)) (known
 -- events of the bus, and none of them
 some-bus : (before after : List ℕ) (e : ℕ) → e ≤ 3 → anyBus (before ++ (e ∷ after)) ≡ true
 some-bus [] after e h = rw (bus-byte e, le-leb e 3 h)
-some-bus (y ∷ before) after e h = rw (some-bus before after e h) (either (isBus (happening y)))
-  where
-    either : (t : Bool) → (t || true) ≡ true
-    either true = refl
-    either false = refl
+some-bus (y ∷ before) after e h = rw (some-bus before after e h) (or-true (isBus (happening y)))
 
 no-bus : (es : List ℕ) → Each (λ e. 3 < e) es → anyBus es ≡ false
 no-bus [] h = refl
@@ -78,14 +73,10 @@ not-held h x i m es a before after e low some top other handed cut bus =
 
 pub neither : Neither
 neither h x i m es a low some top handed quiet =
-    let may : mayCall (holderOf h) (masterOf x) es ≡ true = rw (no-bus es quiet) (either (holds (holderOf h) (masterOf x))) in
+    let may : mayCall (holderOf h) (masterOf x) es ≡ true = rw (no-bus es quiet) (or-true (holds (holderOf h) (masterOf x))) in
     ap (λ (o : CallOutcome). o .run)
     (call-ran (h ∷ []) x i m es a (handed .memory) (handed .state) (decoded i m es handed) (holderOf h) (masterOf x)
     (stands h x low some top) (known es (handed .events)) may)
-  where
-    either : (t : Bool) → (t || true) ≡ true
-    either true = refl
-    either false = refl
 
 pub holding : Holding
 holding x i m es a some top handed =

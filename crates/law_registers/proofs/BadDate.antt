@@ -3,7 +3,7 @@
 -- refused because 02h to 08h are no date. Where no transfer is, Clocks change nothing.
 -- Assumes nothing.
 use Prim.Native.Nat.{ℕ, _<_}
-use mathlib.Core.Path.{_≡_, refl, sym, ap, subst, _∙_}
+use mathlib.Core.Path.{_≡_, sym, ap, subst}
 use mathlib.Core.Bool.{Bool, true, false}
 use mathlib.Core.List.{List, [], _∷_}
 use native.Mathlib.Omega.{arith}
@@ -24,11 +24,10 @@ use Rattle.companion.specs.Part.{storeOf, refusedDate}
 use Rattle.companion.specs.declared.Taken.{Taken}
 use Rattle.device.specs.Chip.{fm3130}
 use Rattle.device.specs.declared.State.{State}
-use Rattle.lists.specs.Run.{runOf}
 use Rattle.clocks.specs.Clocks.{clockEvent, clocksOf, eightClocks}
 use Rattle.transfers.proofs.Runs.{Leads, leads-then, led, start-leads}
 use Rattle.transfers.proofs.Written.{onBus}
-use Rattle.law_registers.specs.BadDate.{upToEighth, Unheard, RefusedAtEighth, NoBadDate}
+use Rattle.law_registers.specs.BadDate.{upToEighth, Unheard, NoBadDate}
 use Rattle.law_registers.proofs.Clocking.{Desk, clock-leads}
 use Rattle.law_registers.proofs.Ticks.{stays}
 use Rattle.law_registers.proofs.Storing.{slave-write, pointer-byte}

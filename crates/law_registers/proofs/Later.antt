@@ -4,7 +4,7 @@
 -- Assumes nothing.
 use Prim.Native.Nat.{ℕ, zero, suc, _+_}
 use mathlib.Core.Path.{_≡_, refl, sym, ap, subst, _∙_}
-use mathlib.Core.Bool.{Bool, true, false, cond, _&&_, _||_}
+use mathlib.Core.Bool.{Bool, true, false, cond, _&&_, _||_, or-assoc, or-false}
 use mathlib.Core.List.{List, [], _∷_}
 use Rattle.weights.specs.Weight.{has}
 use Rattle.wire.specs.Bits.{placeAt}
@@ -77,14 +77,6 @@ pub record Rises (af cf : Bool) (c k : Desk) : Type 0 where
   pub af-or : has (c .registers .control) 0x40 ≡ (af || has (k .registers .control) 0x40)
   pub cf-or : has (c .registers .control) 0x20 ≡ (cf || has (k .registers .control) 0x20)
 
-or-assoc : (x y z : Bool) → ((x || y) || z) ≡ (x || (y || z))
-or-assoc true y z = refl
-or-assoc false y z = refl
-
-or-false : (x : Bool) → x ≡ (x || false)
-or-false true = refl
-or-false false = refl
-
 module _ (af cf : Bool) where
   counted-rises : (c k : Desk) → Rises af cf c k → Rises af cf (countedOf c) (countedOf k)
   counted-rises c k r =
@@ -144,8 +136,8 @@ later-flags s t m n on u =
       trim = u .trim;
       alarm = u .alarm;
       core = u .core;
-      af-or = or-false (has x 0x40) ∙ ap (λ (z : Bool). has x 0x40 || z) (sym (u .af));
-      cf-or = or-false (has x 0x20) ∙ ap (λ (z : Bool). has x 0x20 || z) (sym (u .cf));
+      af-or = sym (or-false (has x 0x40)) ∙ ap (λ (z : Bool). has x 0x40 || z) (sym (u .af));
+      cf-or = sym (or-false (has x 0x20)) ∙ ap (λ (z : Bool). has x 0x20 || z) (sym (u .cf));
     }))
 
 module _ (a : ℕ) (m : List ℕ) (c : Desk) (b n₀ n₁ n₂ n₃ n₄ n₅ n₆ n₇ : ℕ) (d₀ d₁ d₂ d₃ d₄ d₅ d₆ d₇ : Bool) where

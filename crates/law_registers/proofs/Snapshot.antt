@@ -2,10 +2,10 @@
 -- The clock read with R. Where R rises 02h to 08h take the core, and while it is 1 ticks leave them; so each of the seven bytes is
 -- fixed as it was then.
 -- Assumes nothing.
-use Prim.Native.Nat.{ℕ, _+_, _*_, _/_, _%_, _≤_, _<_}
+use Prim.Native.Nat.{ℕ, _+_, _*_, _/_, _%_, _≤_}
 use mathlib.Core.Path.{_≡_, refl, sym, ap, subst, _∙_}
-use mathlib.Core.Bool.{Bool, true, false, cond, not, _&&_, _||_}
-use mathlib.Core.List.{List, [], _∷_, _++_}
+use mathlib.Core.Bool.{Bool, true, false, cond, _&&_, _||_, or-true}
+use mathlib.Core.List.{List, _++_}
 use native.Mathlib.Omega.{arith}
 use lib.Dec.{lit≤}
 use lib.ListN.{getD}
@@ -14,7 +14,6 @@ use Rattle.weights.proofs.Cases.{by-cond}
 use Rattle.wire.specs.Clock.{more}
 use Rattle.wire.specs.declared.Side.the-variants.{Companion}
 use Rattle.wire.specs.declared.Phase.the-variants.{Idle, Read}
-use Rattle.bus.specs.declared.Power.the-variants.{On}
 use Rattle.calendar.specs.declared.Calendar.{Calendar}
 use Rattle.registers.specs.Control.{controlAfter}
 use Rattle.companion.specs.Change.{withAddress}
@@ -31,8 +30,8 @@ use Rattle.law_registers.specs.Ticks.{total}
 use Rattle.law_registers.specs.Snapshot.{countsIn, among, shownAmong, sevenBytes, sevenShown, Untorn}
 use Rattle.law_registers.proofs.Ticks.{ticked, tickedAll, ticked-all, ticked-address, paced, stays}
 use Rattle.law_registers.proofs.Clocking.{Desk, on-bus, register-run, loaded-keeps, loaded-address, loaded-other}
-use Rattle.law_registers.proofs.Held.{Leaves, still-held}
-use Rattle.law_registers.proofs.Setting.{Goes, goes-then, control-goes, ticks-go, ticks-leave, control-stored}
+use Rattle.law_registers.proofs.Held.{still-held}
+use Rattle.law_registers.proofs.Setting.{goes-then, control-goes, ticks-go, ticks-leave, control-stored}
 use Rattle.law_registers.proofs.ReadOut.{opens}
 use Rattle.law_registers.proofs.Later.{ninth-leads}
 
@@ -142,10 +141,6 @@ frozen-core c b o r = rw (o, r) (either (has b 0x02))
     either : (w : Bool) → cond (w || true) (coreWritten c b) (coreWritten c b) ≡ coreWritten c b
     either true = refl
     either false = refl
-
-or-true : (w : Bool) → (w || true) ≡ true
-or-true true = refl
-or-true false = refl
 
 pub untorn : Untorn
 untorn s m up k n on byte low r good =

@@ -2,4 +2,5 @@
 pub mod Lines
 pub mod ByNumber
 pub mod Wires
+pub mod Told
 pub mod Unique

@@ -1,9 +1,9 @@
 -- SPDX-License-Identifier: Apache-2.0
 -- The list run under each number: the ways through its tests.
 -- Assumes nothing.
-use Prim.Native.Nat.{ℕ, _≤_, _<_}
+use Prim.Native.Nat.{ℕ, _<_}
 use mathlib.Core.Path.{_≡_, refl, ap, _∙_}
-use mathlib.Core.Bool.{Bool, true, false, _&&_}
+use mathlib.Core.Bool.{true, false, and-false}
 use mathlib.Core.List.{List, [], _∷_, _++_}
 use lib.Dec.{leb}
 use borrow.Author.Tests.{le-leb, lt-leb}
@@ -13,11 +13,11 @@ use Rattle.image.specs.Image.{decodeOf}
 use Rattle.image.specs.Reading.{WrittenBy}
 use Rattle.image.specs.declared.Decoded.the-variants.{Good, Bad}
 use Rattle.image.proofs.Images.{settled-decode}
-use Rattle.lists.specs.Run.{Outcome, allKnown, outcomeOf}
+use Rattle.lists.specs.Run.{Outcome, allKnown}
 use Rattle.lists.proofs.Runs.{outcome-wrong-memory, outcome-wrong-image, outcome-unknown-event, outcome-short-answers}
 use Rattle.lists.proofs.Runs.{outcome-written}
 use Rattle.lists.proofs.Pieces.{known-append}
-use Rattle.table.specs.Lists.{EachKnown, ListNumbers, EveryListNumber}
+use Rattle.table.specs.Lists.{EachKnown, EveryListNumber}
 
 known : (es : List ℕ) → EachKnown es → allKnown es ≡ true
 unfolding allKnown
@@ -27,11 +27,7 @@ known (e ∷ es) h = and-join (leb e 7) (allKnown es) (le-leb e 7 (h .0)) (known
 unknown : (before after : List ℕ) (e : ℕ) → 7 < e → allKnown (before ++ (e ∷ after)) ≡ false
 unfolding allKnown
 unknown before after e h =
-    known-append before (e ∷ after) ∙ rw (lt-leb e 7 h) (never (allKnown before))
-  where
-    never : (t : Bool) → (t && false) ≡ false
-    never true = refl
-    never false = refl
+    known-append before (e ∷ after) ∙ rw (lt-leb e 7 h) (and-false (allKnown before))
 
 pub every-list-number : EveryListNumber
 every-list-number i m es a =

@@ -5,7 +5,7 @@
 --   RangeEnds          what the checker and the proposer say at its ends
 --   CodeEnds           and what the checker says of codes
 -- Assumes nothing.
-use Prim.Native.Nat.{ℕ, _≤_, _<_}
+use Prim.Native.Nat.{_≤_, _<_}
 use mathlib.Core.Path.{_≡_}
 use lib.IntN.{ℤ, pos, negsuc}
 use Rattle.trim.specs.Verdict.{CheckSettled}

@@ -9,13 +9,15 @@ use mathlib.Core.Path.{_≡_}
 use mathlib.Core.List.{List, []}
 use denote.Ref.{RefT}
 use lib.ListN.{length, take, drop}
+use Rattle.registers.specs.Map.{COUNT}
+use Rattle.device.specs.Chip.{memorySize}
 use Rattle.view.specs.View.{viewNumber, viewOf, viewPlace}
 
--- The FM3130 has 8,192 bytes of memory and 15 registers. The empty part lies at the memory's front.
+-- Of the FM3130. The empty part lies at the memory's front.
 pub record EmptyBy (number : ℕ) (i m : RefT (List ℕ)) (selector start len : ℕ) : Type 0 where
-  pub given : viewNumber 8192 15 (i .now) (m .now) selector start len ≡ number
-  pub empty : viewOf 8192 15 (i .now) (m .now) selector start len ≡ []
-  pub place : viewPlace 8192 15 i m selector start len ≡ m .ptr
+  pub given : viewNumber memorySize COUNT (i .now) (m .now) selector start len ≡ number
+  pub empty : viewOf memorySize COUNT (i .now) (m .now) selector start len ≡ []
+  pub place : viewPlace memorySize COUNT i m selector start len ≡ m .ptr
 
 pub record ViewNumbers (i m : RefT (List ℕ)) (selector start len : ℕ) : Type 0 where
   pub memory : (length (m .now) ≡ 8192 → ⊥) → EmptyBy 1 i m selector start len
@@ -26,9 +28,9 @@ pub record ViewNumbers (i m : RefT (List ℕ)) (selector start len : ℕ) : Type
   pub registers-passed : length (m .now) ≡ 8192 → length (i .now) ≡ 64 → selector ≡ 1 → 15 < start + len
       → EmptyBy 6 i m selector start len
   pub of-memory : length (m .now) ≡ 8192 → length (i .now) ≡ 64 → selector ≡ 0 → start + len ≤ 8192
-      → viewOf 8192 15 (i .now) (m .now) selector start len ≡ take len (drop start (m .now))
+      → viewOf memorySize COUNT (i .now) (m .now) selector start len ≡ take len (drop start (m .now))
   pub of-registers : length (m .now) ≡ 8192 → length (i .now) ≡ 64 → selector ≡ 1 → start + len ≤ 15
-      → viewOf 8192 15 (i .now) (m .now) selector start len ≡ take len (drop start (take 15 (i .now)))
+      → viewOf memorySize COUNT (i .now) (m .now) selector start len ≡ take len (drop start (take 15 (i .now)))
 
 abbrev pub EveryViewNumber : Type 0
 EveryViewNumber = (i m : RefT (List ℕ)) (selector start len : ℕ) → ViewNumbers i m selector start len
