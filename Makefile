@@ -44,7 +44,7 @@ PINS := -Ifirmware -Itests/wires firmware/pins.c tests/wires/*.c
 SECONDS := 200
 
 .PHONY: help test tests check demo lib library archives dist dist-check install command host ctest python python-test \
-	second compare quotations edits all-edits twins web web-test controller bench counts fuzz fmt fmt-check setup setup-library clean
+	second compare quotations edits all-edits twins few-twins web web-test controller bench counts fuzz fmt fmt-check setup setup-library clean
 
 help: ## list these targets
 	@awk -F':.*## ' '/^[a-z-]+:.*## / { printf "make %-11s %s\n", $$1, $$2 }' Makefile
@@ -53,7 +53,7 @@ help: ## list these targets
 test: setup ## everything: set-up, all proofs from nothing (rt ci), the tests in C, Python and Rust on what was just proved
 	@tools/test.sh
 
-tests: lib dist-check ctest python-test ## the tests in C, Python and Rust alone
+tests: lib dist-check ctest python-test few-twins ## the tests in C, Python and Rust alone, and three twins
 	@$(CARGO_TEST)
 
 check: ## prove the crates that changed, and run the programs
@@ -159,9 +159,13 @@ edits: library ## docs/EDITS.md, from what the prover last said of each edit (rt
 all-edits: ## try every edit, the further ones of edits/ too
 	@tools/all-edits.sh
 
-# Minutes for each: a twin proves all that stands on the rule it changes, up to its law.
+# Minutes for most: a twin proves all that stands on the rule it changes, up to its law.
 twins: check ## try the twins: devices with a rule wrong in definition and code alike, each refused by a law alone
 	@tools/twins.py
+
+# Those that prove the fewest crates.
+few-twins:
+	@tools/twins.py late_date_goes_to_the_first one_byte_over_judged range_to_19999
 
 web: library ## the device for browsers and Node: build/web, with one page that needs no other file, fm3130.html
 	@tools/web.sh $(ARCHIVES)

@@ -44,6 +44,10 @@ failed first. Those named `CRATE/must-fail/..` are tried by the gate each time, 
 `make all-edits`: an edit proves its whole crate anew, and all of them would take the gate past its hour (D105). `make edits`
 writes this page from what the prover said when it last tried each edit, and a test sees that every edit has its line.
 
+Laws have no code, and an edit of their words alone shows only that a false sentence has no proof. What shows that a law sees a wrong
+rule is a twin, a device wrong in definition and code alike, which the law must refuse: `twins/` has them, for the laws of `law_power`,
+`law_alarm` and `law_phases` in place of edits (D236).
+
 What `f` ensures is the contract of the function `f`; law `F.l` is the law `l` in the file F of the crate's proofs. Where `a` is
 not `b`, these are two terms that had to be one, shortened; one that only the prover can read is left out.
 
