@@ -15,7 +15,7 @@ export RT_JOBS := $(shell tools/jobs.sh)
 # build/official for x86-64.
 ARCHIVES := rig view single line narrow mend sleep master handheld capture proving trim rig31 rig31set
 
-# Where `make install` puts the library; DESTDIR goes before it.
+# Where `make install` puts all that it installs; DESTDIR goes before it.
 PREFIX ?= /usr/local
 
 # What says nothing for long is said to be under way.
@@ -44,7 +44,8 @@ PINS := -Ifirmware -Itests/wires firmware/pins.c tests/wires/*.c
 SECONDS := 200
 
 .PHONY: help test tests check demo lib library archives dist dist-check install command host ctest python python-test \
-	second compare quotations edits all-edits twins few-twins web web-test controller bench counts fuzz fmt fmt-check setup setup-library clean
+	second compare quotations edits all-edits twins few-twins web web-test controller bench counts fuzz fmt fmt-check setup \
+	setup-library clean uninstall
 
 help: ## list these targets
 	@awk -F':.*## ' '/^[a-z-]+:.*## / { printf "make %-11s %s\n", $$1, $$2 }' Makefile
@@ -95,12 +96,11 @@ dist-check: lib
 archives:
 	@tools/native-archives.sh $(ARCHIVES)
 
-install: library ## the library for C: headers, archive and fm3130.pc below DESTDIR and PREFIX
-	@install -d "$(DESTDIR)$(PREFIX)/include" "$(DESTDIR)$(PREFIX)/lib/pkgconfig"
-	@install -m 644 include/fm3130.h include/fm31.h "$(DESTDIR)$(PREFIX)/include/"
-	@install -m 644 build/lib/libfm3130.a "$(DESTDIR)$(PREFIX)/lib/libfm3130.a"
-	@tools/pkg-config.sh $(PREFIX)/include $(PREFIX)/lib >"$(DESTDIR)$(PREFIX)/lib/pkgconfig/fm3130.pc"
-	@echo "installed below $(DESTDIR)$(PREFIX): include/fm3130.h and fm31.h, lib/libfm3130.a, lib/pkgconfig/fm3130.pc"
+install: command ## the command, its manual and completion, the library, headers and pages below DESTDIR and PREFIX
+	@tools/install.sh install "$(PREFIX)" "$(DESTDIR)"
+
+uninstall: ## take away exactly what `make install` has put there
+	@tools/install.sh uninstall "$(PREFIX)" "$(DESTDIR)"
 
 command: library ## the command fm3130: build/cargo/release/fm3130
 	@tools/setup.sh command
@@ -120,6 +120,7 @@ ctest: library host ## the archives through the C headers (the official one too)
 	@tools/run-x86-64.sh build/ctest/official $(FRAMES)
 	@build/ctest/plusplus
 	@tests/c/library.sh build/ctest/library
+	@tests/c/install.sh build/ctest/install $(CC)
 	@tests/c/alone.sh build/ctest/alone build/lib/libfm3130.a $(CC)
 	@tests/c/alone.sh build/ctest/alone build/lib/x86_64/libfm3130.a $(CC_X86_64)
 	@tests/c/host.sh $(HOST) build/ctest/host
