@@ -124,7 +124,7 @@ ctest: library host ## the archives through the C headers (the official one too)
 	@tests/c/alone.sh build/ctest/alone build/lib/libfm3130.a $(CC)
 	@tests/c/alone.sh build/ctest/alone build/lib/x86_64/libfm3130.a $(CC_X86_64)
 	@tests/c/host.sh $(HOST) build/ctest/host
-	@tests/c/guide.sh build/ctest/guide $(CC) $(C99)
+	@tests/c/guide.py build/ctest/guide
 	@tests/c/numbers.sh build/ctest $(CC) $(C99)
 	@$(FM3130) events $(SESSION) -o build/ctest/session.events
 	@cmp build/ctest/session.events build/ctest/host/session

@@ -2,7 +2,7 @@
 # SPDX-License-Identifier: Apache-2.0
 # numbers.sh FOLDER COMPILER...: no C of ours drops a number. A header made of the declarations of the entries has the
 # compiler refuse a call whose number nobody looks at; the host, the firmware, the tests, the fuzzer and the guide's
-# programs, which guide.sh has left in FOLDER/guide, are compiled with it. What a board of tests/controller has of its
+# programs, which guide.py has left in FOLDER/guide, are compiled with it. What a board of tests/controller has of its
 # own calls no entry and is for its processor alone.
 set -euo pipefail
 
