@@ -19,8 +19,10 @@ ARCHIVES := rig view single line narrow mend sleep master handheld capture provi
 PREFIX ?= /usr/local
 
 # What says nothing for long is said to be under way.
-CARGO_TEST := tools/patient.sh 'being compiled and tested' cargo test --offline --release --quiet
-COMPILE_COMMAND := tools/patient.sh 'being compiled' cargo build --offline --release --quiet --package fm3130-cli
+PATIENT := tools/patient.sh
+CARGO_TEST := $(PATIENT) 'being compiled and tested' cargo test --offline --release --quiet
+CARGO_RUN := $(PATIENT) 'under way' cargo run --offline --release --quiet
+COMPILE_COMMAND := $(PATIENT) 'being compiled' cargo build --offline --release --quiet --package fm3130-cli
 # Debian's own, which has its packages; nothing is written beside the sources.
 PYTHON := /usr/bin/python3 -B
 FM3130 := cargo run --offline --release --quiet --package fm3130-cli --
@@ -58,7 +60,8 @@ tests: lib dist-check ctest python-test few-twins ## the tests in C, Python and 
 	@$(CARGO_TEST)
 
 check: ## prove the crates that changed, and run the programs
-	@rt check
+	@tools/proving.sh build/log/check.txt rt check || { cat build/log/check.txt; exit 1; }
+	@tail -n 1 build/log/check.txt
 
 demo: host ## play a proving session through the C host, in words, and draw its wires and its lamps
 	@mkdir -p build/demo
@@ -88,10 +91,10 @@ lib: archives ## prove the library: build/native (this machine), build/official 
 
 # What the gate proves is compared with dist/, byte for byte; nothing else is compiled for that.
 dist: lib ## make dist/ anew from the proved crates: the library for each machine, the module and the page for browsers
-	@tools/dist.sh $(ARCHIVES)
+	@$(PATIENT) 'being compiled' tools/dist.sh $(ARCHIVES)
 
 dist-check: lib
-	@tools/dist.sh check $(ARCHIVES)
+	@$(PATIENT) 'being compiled' tools/dist.sh check $(ARCHIVES)
 
 archives:
 	@tools/native-archives.sh $(ARCHIVES)
@@ -117,14 +120,14 @@ ctest: library host ## the archives through the C headers (the official one too)
 	@$(CXX) $(STRICT) tests/c/plusplus.cc build/lib/libfm3130.a -o build/ctest/plusplus
 	@$(CC_X86_64) $(C99) -m32 -ffreestanding -fsyntax-only -x c include/fm31.h
 	@build/ctest/native $(FRAMES)
-	@tools/run-x86-64.sh build/ctest/official $(FRAMES)
+	@$(PATIENT) 'being tested' tools/run-x86-64.sh build/ctest/official $(FRAMES)
 	@build/ctest/plusplus
 	@tests/c/library.sh build/ctest/library
 	@tests/c/install.sh build/ctest/install $(CC)
 	@tests/c/alone.sh build/ctest/alone build/lib/libfm3130.a $(CC)
 	@tests/c/alone.sh build/ctest/alone build/lib/x86_64/libfm3130.a $(CC_X86_64)
 	@tests/c/host.sh $(HOST) build/ctest/host
-	@tests/c/guide.py build/ctest/guide
+	@$(PATIENT) 'the guide is followed' tests/c/guide.py build/ctest/guide
 	@tests/c/numbers.sh build/ctest $(CC) $(C99)
 	@$(FM3130) events $(SESSION) -o build/ctest/session.events
 	@cmp build/ctest/session.events build/ctest/host/session
@@ -142,7 +145,8 @@ python: library ## the package for Python with its library, which needs no other
 
 python-test: library ## the tests of the package for Python, its examples and the guide's
 	@tools/setup.sh python
-	@cd python && FM3130_LIBRARY="$(CURDIR)/build/lib/libfm3130.so" PYTHONPATH="$(CURDIR)/python" $(PYTHON) -m pytest --quiet
+	@cd python && FM3130_LIBRARY="$(CURDIR)/build/lib/libfm3130.so" PYTHONPATH="$(CURDIR)/python" \
+		../$(PATIENT) 'being tested' $(PYTHON) -m pytest --quiet
 
 second: ## the tests of the second program, which is written apart from the crates
 	@$(CARGO_TEST) --package second
@@ -151,18 +155,18 @@ compare: library ## the proved program and the second program, side by side
 	@$(CARGO_TEST) --package compare
 
 quotations: library ## compare/quotations.sums: every quotation is looked up in the papers, which are in ../shared
-	@cargo run --offline --release --quiet --package compare --bin write_quotations
+	@$(CARGO_RUN) --package compare --bin write_quotations
 
 edits: library ## docs/EDITS.md, from what the prover last said of each edit (rt must-fail, rt ci, make all-edits)
-	@cargo run --offline --release --quiet --package compare --bin write_edits
+	@$(CARGO_RUN) --package compare --bin write_edits
 
 # More than an hour on two cores, so `make test` tries those of crates/*/must-fail alone.
 all-edits: ## try every edit, the further ones of edits/ too
-	@tools/all-edits.sh
+	@$(PATIENT) 'edits are tried' tools/all-edits.sh
 
 # Minutes for most: a twin proves all that stands on the rule it changes, up to its law.
 twins: check ## try the twins: devices with a rule wrong in definition and code alike, each refused by a law alone
-	@tools/twins.py
+	@$(PATIENT) 'twins are tried' tools/twins.py
 
 # Those that prove the fewest crates.
 few-twins:
@@ -174,38 +178,38 @@ web: library ## the device for browsers and Node: build/web, with one page that 
 # Not part of `make test`: it needs a browser.
 web-test: web ## the tests of the module, of the page beside the command, and of the page in a headless browser
 	@tools/setup.sh web
-	@cargo build --offline --release --quiet --package fm3130-cli
-	@node --test tests/web/*.test.mjs
-	@/usr/bin/python3 tests/web/browser.py build/web/fm3130.html build/cargo/release/fm3130 build/web-test
+	@$(COMPILE_COMMAND)
+	@$(PATIENT) 'being tested' node --test tests/web/*.test.mjs
+	@$(PATIENT) 'being tested' /usr/bin/python3 tests/web/browser.py build/web/fm3130.html build/cargo/release/fm3130 build/web-test
 
 # Not part of `make test`: its emulators and GCC for ARM are 110 MB to fetch and 700 MB when installed.
 controller: lib ## archives for controllers (build/controller), tested on emulated boards; one table of what came out
 	@tools/setup.sh controller
-	@tools/controller-archives.sh $(ARCHIVES)
-	@tools/controller.sh test
+	@$(PATIENT) 'being compiled' tools/controller-archives.sh $(ARCHIVES)
+	@$(PATIENT) 'being tested' tools/controller.sh test
 
 # Neither of the next two is part of `make test`: times differ from machine to machine, and a search has no end.
 bench: library ## the proved list run timed beside plain programs; the tables also go to build/bench/SPEED.md
 	@tools/setup.sh bench
 	@mkdir -p build/bench
-	@cargo run --offline --release --quiet --package bench | tee build/bench/SPEED.md
+	@$(CARGO_RUN) --package bench | tee build/bench/SPEED.md
 
 # The counts are those of x86-64; on another machine there is nothing to hold.
 counts: library ## the proved archive's instructions, held to those that docs/SPEED.md stores
 ifeq ($(MACHINE),x86_64)
 	@tools/setup.sh bench
-	@cargo run --offline --release --quiet --package bench -- --hold docs/SPEED.md
+	@$(CARGO_RUN) --package bench -- --hold docs/SPEED.md
 else
 	@echo "counts: docs/SPEED.md stores those of x86-64; this machine is $(MACHINE)"
 endif
 
 fuzz: library ## chosen bytes at the archive's C boundary, five targets for SECONDS=200 each
 	@tools/setup.sh fuzz
-	@tools/fuzz.sh $(SECONDS) entries
-	@tools/fuzz.sh $(SECONDS) captures
-	@tools/fuzz.sh $(SECONDS) family
-	@tools/fuzz.sh $(SECONDS) sets
-	@tools/fuzz.sh $(SECONDS) beside
+	@$(PATIENT) 'entries: chosen bytes' tools/fuzz.sh $(SECONDS) entries
+	@$(PATIENT) 'captures: chosen bytes' tools/fuzz.sh $(SECONDS) captures
+	@$(PATIENT) 'family: chosen bytes' tools/fuzz.sh $(SECONDS) family
+	@$(PATIENT) 'sets: chosen bytes' tools/fuzz.sh $(SECONDS) sets
+	@$(PATIENT) 'beside: chosen bytes' tools/fuzz.sh $(SECONDS) beside
 
 fmt: ## format all Rattle and Rust files
 	@rt fmt

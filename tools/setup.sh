@@ -89,6 +89,8 @@ echo "setup: installing$missing"
 log=$(mktemp)
 trap 'rm -f "$log"' EXIT
 export DEBIAN_FRONTEND=noninteractive
+# shellcheck disable=SC2016 # the inner shell's words
+install='log=$1; shift; { apt-get update && apt-get install -y --no-install-recommends "$@"; } >"$log" 2>&1'
 # shellcheck disable=SC2086 # one word a package
-{ apt-get update && apt-get install -y --no-install-recommends $missing; } >"$log" 2>&1 ||
+"$(dirname "$0")/patient.sh" 'being installed' sh -c "$install" sh "$log" $missing ||
     { cat "$log" >&2; fail "apt-get could not install$missing"; }

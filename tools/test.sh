@@ -5,12 +5,14 @@
 # with the edits. So no crate is proved a second time for the tests.
 #
 # The lines of `rt ci` are printed as they come, but the last one, "N passed, 0 failed", is held back to be the last of all, and
-# is printed only if the tests passed. Where they fail, what they said is printed and `rt ci` is stopped.
+# is printed only if the tests passed. Where they fail, what they said is printed and `rt ci` is stopped. `rt ci` prints what a batch
+# of crates or edits said once the whole batch has ended: where that takes more than ten seconds, a line says how far it is.
 set -euo pipefail
 set -m # a group of processes for each of the two, so that each can be stopped whole
 
 cd "$(dirname "$0")/.."
 mkdir -p build/log
+started=$SECONDS
 proofs_said=build/log/ci.txt
 tests_said=build/log/tests.txt
 proofs=''
@@ -26,10 +28,36 @@ stop() {
 trap stop EXIT
 trap 'exit 1' HUP INT TERM
 
+# How far `rt ci` is, by the files that it has written: crates that are proved, or edits that were begun.
+how_far() {
+    if [ -d target/must-fail ]; then
+        echo "$(find target/must-fail -mindepth 2 -maxdepth 2 -type d | wc -l) of $(find crates/*/must-fail -name '*.edit' | wc -l) edits"
+    else
+        echo "$(grep -ls '^rt: .* proved' target/log/*.out | wc -l) of $(sed 's/#.*//' crates.txt | grep -c ':') crates proved"
+    fi
+}
+
+# Passes lines on as they come, but the last one.
+but_the_last() {
+    local line held='' status
+    while :; do
+        status=0
+        IFS= read -r -t 10 line || status=$?
+        if [ "$status" -gt 128 ]; then
+            echo "  .. $(how_far) ($((SECONDS - started)) s)"
+        elif [ "$status" -gt 0 ]; then
+            return
+        else
+            [ -z "$held" ] || printf '%s\n' "${held#=}"
+            held="=$line"
+        fi
+    done
+}
+
 # `rt ci` removes target/ too: what is there from now on is of this run. The tests may have all processors, and `rt ci` what they
 # leave, so that a test that fails ends the run early.
 rm -rf target
-(nice rt ci 2>&1 | tee "$proofs_said" | sed -u '$d') &
+(nice rt ci 2>&1 | tee "$proofs_said" | but_the_last) &
 proofs=$!
 
 # `rt ci` makes this folder when all crates have been tried and the first edit begins.
