@@ -33,7 +33,7 @@ class Twin:
         self.name = os.path.basename(path)[: -len(".twin")]
         refused = re.search(r"^# Refused by: (\w+), (.+)$", text, re.M)
         prove = re.search(r"^# Prove: (.+)$", text, re.M)
-        places = re.findall(r"^file: (.+)\nold: (.+)\nnew: (.*)$", text, re.M)
+        places = re.findall(r"^file: (.+)\nold: (.+)\nnew: ?(.*)$", text, re.M)
         self.places = [(file, old.replace("\\n", "\n"), new.replace("\\n", "\n")) for file, old, new in places]
         if not (refused and prove and self.places):
             sys.exit(f"twins: {path} lacks who refuses it, what is to be proved, or a place")

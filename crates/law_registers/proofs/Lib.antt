@@ -14,5 +14,7 @@ pub mod Later
 pub mod UnderWay
 pub mod ReadBack
 pub mod BadDate
+pub mod Opening
 pub mod Snapshot
 pub mod Among
+pub mod Eighth

@@ -28,31 +28,11 @@ use Rattle.transfers.proofs.Runs.{Leads, leads-then}
 use Rattle.transfers.proofs.Written.{onBus}
 use Rattle.law_registers.specs.Ticks.{total}
 use Rattle.law_registers.specs.Snapshot.{countsIn, among, shownAmong, sevenBytes, sevenShown, Untorn}
-use Rattle.law_registers.proofs.Ticks.{ticked, tickedAll, ticked-all, ticked-address, paced, stays}
+use Rattle.law_registers.proofs.Ticks.{ticked, tickedAll, ticked-all, paced, stays}
 use Rattle.law_registers.proofs.Clocking.{Desk, on-bus, register-run, loaded-keeps, loaded-address, loaded-other}
-use Rattle.law_registers.proofs.Held.{still-held}
-use Rattle.law_registers.proofs.Setting.{goes-then, control-goes, ticks-go, ticks-leave, control-stored}
-use Rattle.law_registers.proofs.ReadOut.{opens}
+use Rattle.law_registers.proofs.Setting.{goes-then, control-goes, control-stored}
+use Rattle.law_registers.proofs.Opening.{Frozen, Still, still-ticked, opening}
 use Rattle.law_registers.proofs.Later.{ninth-leads}
-
--- R or W is 1: 02h to 08h are held
-abbrev Holds : Desk → Type 0
-Holds c = (has (c .registers .control) 0x02 || has (c .registers .control) 0x01) ≡ true
-
--- what stays from byte to byte
-record Still (t : Calendar) (k : ℕ) (c : Desk) : Type 0 where
-  pub address : c .address ≡ k
-  pub time : c .registers .time ≡ t
-  pub holds : Holds c
-
-still-ticked : (t : Calendar) (k n : ℕ) (c : Desk) → Still t k c → Still t k (ticked n c)
-still-ticked t k n c s =
-    let l = ticks-leave n c (s .holds) in
-    record {
-      address = ticked-address n c ∙ s .address;
-      time = l .time ∙ s .time;
-      holds = still-held c (ticked n c) l (s .holds);
-    }
 
 still-loaded : (t : Calendar) (k x : ℕ) (c : Desk) → 2 ≤ k → k ≤ 8 → Still t k c → Still t (k + 1) (loadedOf c x)
 still-loaded t k x c low high s =
@@ -60,8 +40,11 @@ still-loaded t k x c low high s =
     let same = loaded-other c x (λ z. omega arith) in
     record {
       address = loaded-address c x ∙ omega arith;
-      time = loaded-keeps c x (λ (z : Desk). z .registers .time) refl refl ∙ s .time;
-      holds = ap (λ (y : ℕ). has y 0x02 || has y 0x01) same ∙ s .holds;
+      frozen =
+          record {
+            time = loaded-keeps c x (λ (z : Desk). z .registers .time) refl refl ∙ s .frozen .time;
+            holds = ap (λ (y : ℕ). has y 0x02 || has y 0x01) same ∙ s .frozen .holds;
+          };
     }
 
 module _ (a : ℕ) (m : List ℕ) (t : Calendar) where
@@ -80,7 +63,7 @@ module _ (a : ℕ) (m : List ℕ) (t : Calendar) where
       let x = loadOf (ticked (n 0) c) in
       let fixed : x ≡ byte =
       ap (λ (y : ℕ). registerAt (ticked (n 0) c .registers) y) (first .address)
-      ∙ field (ticked (n 0) c .registers) (first .time) in
+      ∙ field (ticked (n 0) c .registers) (first .frozen .time) in
       let all : Still t k (tickedAll (countsIn n) c) =
       subst (Still t k) (sym (ticked-all (countsIn n) c)) (still-ticked t k (total (countsIn n)) c s) in
       let left = loadedOf (tickedAll (countsIn n) c) x in
@@ -143,22 +126,18 @@ frozen-core c b o r = rw (o, r) (either (has b 0x02))
     either false = refl
 
 pub untorn : Untorn
-untorn s m up k n on byte low r good =
+untorn s m up ks n on byte low r good =
     let a = s .address in
     let c = s .companion in
     let c₁ = steppedOf (controlWritten (withAddress c 0) up) in
     let written = control-goes a m (s .phase) c c₁ up byte (control-stored c up good) in
-    let holds : Holds c₁ =
+    let held : (has (c₁ .registers .control) 0x02 || has (c₁ .registers .control) 0x01) ≡ true =
     ap (λ (z : Bool). has (c₁ .registers .control) 0x02 || z) (control-r (c .registers .control) up ∙ r)
     ∙ or-true (has (c₁ .registers .control) 0x02) in
-    let taken : c₁ .registers .time ≡ c₁ .core = frozen-core (withAddress c 0) up low r in
-    let later = ticked k c₁ in
-    let kept = ticks-leave k c₁ holds in
-    let ready : Still (c₁ .core) 2 (withAddress later 2) =
-    record { address = refl; time = kept .time ∙ taken; holds = still-held c₁ later kept holds } in
-    let go = goes-then written (goes-then (ticks-go a m Idle c₁ k) (opens (onBus Idle a later) m 2 refl (lit≤ tt))) in
-    let here = on-bus s on refl in
-    rw here
+    let frozen : Frozen (c₁ .core) c₁ = record { time = frozen-core (withAddress c 0) up low r; holds = held } in
+    let opened = opening a m (c₁ .core) Idle .walk ks c₁ frozen in
+    let go = goes-then written (opened .run) in
+    rw (on-bus s on refl)
     (ap (λ (z : State). linesOf (runOf z m (sevenBytes n) .answers)) (go .state)
-    ∙ (seven a m (c₁ .core) (withAddress later 2) ready n .lines
+    ∙ (seven a m (c₁ .core) (opened .next) (opened .holds) n .lines
     ∙ ap (λ (z : State). sevenShown n (z .companion .core)) (sym (written .state))))

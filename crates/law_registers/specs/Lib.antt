@@ -11,3 +11,4 @@ pub mod ReadBack
 pub mod BadDate
 pub mod Snapshot
 pub mod Among
+pub mod Eighth

@@ -1,6 +1,6 @@
 -- SPDX-License-Identifier: Apache-2.0
--- The clock read with R (01, Registers and Ticks): a transaction writes 00h with R rising; after any ticks another reads 02h to 08h,
--- with ticks before every clock of its seven bytes. What is read is a calendar that was, never parts of two.
+-- The clock read with R (01, Registers and Ticks): a transaction writes 00h with R rising; another reads 02h to 08h, with ticks before
+-- any of its events and every clock of its seven bytes. What is read is a calendar that was, never parts of two.
 --   among, shownAmong     a byte's nine Clocks, each after its ticks; its lines
 --   sevenBytes, sevenShown   seven bytes of one read
 --   Untorn                the statement
@@ -19,7 +19,7 @@ use Rattle.calendar.specs.declared.Calendar.{Calendar}
 use Rattle.device.specs.declared.State.{State}
 use Rattle.lists.specs.Run.{runOf}
 use Rattle.clocks.specs.Clocks.{linesOf}
-use Rattle.law_registers.specs.Ticks.{ticks, spaced}
+use Rattle.law_registers.specs.Ticks.{spaced}
 use Rattle.law_registers.specs.ReadOut.{openRead}
 use Rattle.law_registers.specs.Setting.{writeRegisters}
 use Rattle.law_registers.specs.Later.{wholeRead}
@@ -48,13 +48,13 @@ sevenShown n t =
     ++ (shownAmong (n 3) (t .day) false ++ (shownAmong (n 4) (t .date) false
     ++ (shownAmong (n 5) (t .month) false ++ shownAmong (n 6) (t .year) true)))))
 
--- R is bit 01h of 00h, W bit 02h. What is read is the core as the write of 00h left it, however many ticks k came before the read
--- and inside it; unless that write makes W fall over no valid calendar (02, number 6).
+-- R is bit 01h of 00h, W bit 02h. What is read is the core as the write of 00h left it, however many ticks come: ks has how many
+-- before each event of the read's opening, n those inside its bytes. Unless that write makes W fall over no valid calendar (02, number 6).
 abbrev pub Untorn : Type 0
 Untorn =
-    (s : State) (m : List ℕ) (up k : ℕ) (n : ℕ → ℕ → ℕ)
+    (s : State) (m : List ℕ) (up : ℕ) (ks : List ℕ) (n : ℕ → ℕ → ℕ)
     → s .power ≡ On → up < 256 → has (s .companion .registers .control) 0x01 ≡ false → has up 0x01 ≡ true
     → (has (s .companion .registers .control) 0x02 ≡ true → has up 0x02 ≡ false
     → isValid (s .companion .registers .time) ≡ true)
-    → linesOf (runOf (runOf s m (writeRegisters 0 (up ∷ []) ++ (ticks k ++ openRead 2)) .state) m (sevenBytes n) .answers)
+    → linesOf (runOf (runOf s m (writeRegisters 0 (up ∷ []) ++ spaced 4 ks (openRead 2)) .state) m (sevenBytes n) .answers)
     ≡ sevenShown n (runOf s m (writeRegisters 0 (up ∷ [])) .state .companion .core)
