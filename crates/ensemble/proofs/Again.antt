@@ -30,9 +30,9 @@ use Rattle.image31.proofs.Images.{decode-image}
 use Rattle.image31set.specs.Read.{countOf, markSize, imageAt, absent, gotOf, deviceAt, placeOf, readingOf}
 use Rattle.image31set.specs.Write.{imagesOf}
 use Rattle.image31set.proofs.Readings.{reading-length}
-use Rattle.ensemble.proofs.Alone.{at-after}
+use Rattle.law_set.proofs.Heard.{at-after}
 use Rattle.ensemble.proofs.Stand.{count-kept}
-use Rattle.ensemble.proofs.Written.{images-long, image-at}
+use Rattle.law_set.proofs.Written.{images-long, image-at}
 
 -- what no event changes of a device
 size-at : (n v : ℕ) (h : Held) (e : ℕ) → afterAt n v h e .member .size ≡ h .member .size

@@ -11,14 +11,8 @@ use Rattle.family.proofs.Lock.{serial-locked}
 use Rattle.merging.specs.Merge.{keepIf}
 use Rattle.set31.specs.Set.{Held, Together, Place, first, second, third, fourth, numberOf, at, hears, ownByte}
 use Rattle.set31.specs.Set.{sizeIn, selectIn, afterOwn, afterAt, afterEvent, afterEvents}
+use Rattle.law_set.proofs.Heard.{at-after}
 use Rattle.ensemble.specs.Alone.{heardBy, alone, AsAlone, countersIn, SerialLockedIn}
-
-pub at-after : (t : Together) (v : Place) (e : ℕ) → at v (afterEvent t e) ≡ afterAt (t .set .count) (numberOf v) (at
-    v t) e
-at-after t first e = refl
-at-after t second e = refl
-at-after t third e = refl
-at-after t fourth e = refl
 
 alone-keep : (b : Bool) (h : Held) (e : ℕ) (es : List ℕ) → alone (cond b (afterOwn h e) h) es ≡ alone h (keepIf b e
     es)

@@ -33,7 +33,7 @@ use Rattle.set31.specs.Set.{Held, Together, Place, numberOf, at, sizeIn, select
 use Rattle.set31.specs.Set.{afterAt, afterEvent, afterEvents}
 use Rattle.ensemble.specs.Transaction.{Here}
 use Rattle.ensemble.specs.Stand.{busIn}
-use Rattle.ensemble.proofs.Alone.{at-after}
+use Rattle.law_set.proofs.Heard.{at-after}
 use Rattle.ensemble.proofs.Transaction.{other-names}
 use Rattle.ensemble.proofs.Demand.{named-answers}
 

@@ -42,7 +42,7 @@ use Rattle.ensemble.specs.Demand.{Told, Device, Tock, second-passed, edg
 use Rattle.ensemble.specs.Demand.{tockByte, among, allOf, partAt, bench}
 use Rattle.ensemble.specs.Demand.{wordByte, wordBytes, ownByteOf, ownBytes, WritesSteadyIn}
 use Rattle.ensemble.specs.Demand.{DemandThree}
-use Rattle.ensemble.proofs.Alone.{at-after}
+use Rattle.law_set.proofs.Heard.{at-after}
 use Rattle.ensemble.proofs.Transaction.{other-names, line-event, after-here, line-here}
 use Rattle.ensemble.proofs.Transaction.{line-away, low-one, low-two, low-three, low-four}
 

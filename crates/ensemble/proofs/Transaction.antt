@@ -34,7 +34,8 @@ use Rattle.set31.specs.Set.{linesTo}
 use Rattle.ensemble.specs.Alone.{heardBy, alone, aloneLines}
 use Rattle.ensemble.specs.Transaction.{lineByte, lineBytes, WholeLines, NamesIt, samePlace, Here}
 use Rattle.ensemble.specs.Transaction.{Unlike, TransactionLeaves, TransactionLine}
-use Rattle.ensemble.proofs.Alone.{at-after, as-alone}
+use Rattle.law_set.proofs.Heard.{at-after}
+use Rattle.ensemble.proofs.Alone.{as-alone}
 
 -- a byte that names a part names no part with other select bits
 no-two : (a b : ℕ) (n : Named) (x y : Bool) → eqb a b ≡ x → answers (cond x n Nobody) ≡ true → x ≡ true

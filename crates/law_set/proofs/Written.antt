@@ -98,7 +98,7 @@ module _ (n : ℕ) (w : ℕ) (s : State) (images : List ℕ) (long : length imag
       (λ t. copy-after images (imageOf s) (image-length s) w (fits t) v h) (λ f. refl)
 
 -- all of them
-abbrev stateAt : Set → Place → State
+abbrev pub stateAt : Set → Place → State
 stateAt s first = s .first .state
 stateAt s second = s .second .state
 stateAt s third = s .third .state
@@ -126,7 +126,7 @@ module _ (n : ℕ) (s : Set) (images : List ℕ) (long : length images ≡ image
   pub images-long : length (imagesOf n s images) ≡ imageSize * n
   images-long = in-long n 3 (s .fourth .state) three long-three
 
-  image-of : (v : Place) → ltb (numberOf v) n ≡ true → imageAt (numberOf v) (imagesOf n s images) ≡ imageOf (stateAt s v)
+  pub image-of : (v : Place) → ltb (numberOf v) n ≡ true → imageAt (numberOf v) (imagesOf n s images) ≡ imageOf (stateAt s v)
   image-of first t =
       in-before n 3 (s .fourth .state) three long-three 0 (omega arith)
       ∙ (in-before n 2 (s .third .state) two long-two 0 (omega arith)
