@@ -12,7 +12,7 @@ use lib.ListN.{length}
 use borrow.Author.Tests.{ne-eqb, eqb-true}
 use Rattle.wire.proofs.Tests.{by-test}
 use Rattle.weights.proofs.Cases.{by-cond}
-use Rattle.numbers.specs.Numbers.{accepted, wrongMemory, wrongState, wrongCount}
+use Rattle.numbers.specs.Numbers.{accepted, wrongMemory, wrongState, wrongCount, unknownEvent}
 use Rattle.wired.proofs.Wire.{not-true}
 use Rattle.set31.specs.Set.{Together, at, afterEvents}
 use Rattle.set31.specs.Make.{isLent, placesAre, differ, selectsDiffer, isCount, countFits}
@@ -46,17 +46,34 @@ unlike-kept t es u v w a b d e =
     u v w (here-before t es v a) (here-before t es w b) d (sym (select-kept t es v) ∙ (e ∙ select-kept t es w))
 
 -- of one to four devices a plan's bytes are counted
-counted : (plan : List ℕ) → isCount (countOf plan) ≡ true → countOf plan ≡ length plan
+pub counted : (plan : List ℕ) → isCount (countOf plan) ≡ true → countOf plan ≡ length plan
 unfolding countOf
 counted plan e = by-test (ltb (length plan) 5) (λ t. rw t refl) (λ f. not-true (rw f at e))
 
-outcome-number : (plan images a b c d es room : List ℕ)
+pub outcome-number : (plan images a b c d es room : List ℕ)
     → runOutcome plan images a b c d es room .number
     ≡ runNumber (readingOf plan images .good) (lentTo (readingOf plan images .set) a b c d) es (length room)
 unfolding runOutcome
 outcome-number plan images a b c d es room =
     let n = runNumber (readingOf plan images .good) (lentTo (readingOf plan images .set) a b c d) es (length room) in
     by-cond (λ (o : Outcome). o .number ≡ n) (eqb n accepted) (λ z. sym (eqb-true n accepted z)) (λ z. refl)
+
+pub outcome-done : (plan images a b c d es room : List ℕ)
+    → (let t = lentTo (readingOf plan images .set) a b c d in
+    runNumber (readingOf plan images .good) t es (length room) ≡ accepted
+    → runOutcome plan images a b c d es room ≡ written (t .set .count) images (runOf t es) es room)
+unfolding runOutcome
+outcome-done plan images a b c d es room e = rw e
+
+-- the tests of a run that Passed does not name: the count, and the events
+pub known-of : (good : Bool) (t : Together) (es : List ℕ) (room : ℕ) → runNumber good t es room ≡ accepted
+    → (countFits t ≡ true) × (allKnown (t .set .count) es ≡ true)
+unfolding runNumber
+known-of good t es room e =
+    let h1 = zero-of (countFits t) _ wrongCount (λ k. omega (arith, k)) e in
+    let h2 = zero-of (placesAre isLent t) _ wrongMemory (λ k. omega (arith, k)) (h1 .1) in
+    let h3 = zero-of good _ wrongState (λ k. omega (arith, k)) (h2 .1) in
+    (h1 .0, zero-of (allKnown (t .set .count) es) _ unknownEvent (λ k. omega (arith, k)) (h3 .1) .0)
 
 pub made-runs : MadeRuns
 unfolding checkOf readingOf
@@ -134,10 +151,6 @@ module _ (plan images a b c d es room : List ℕ)
         (sym (reading-again plan images (all-passed .well) a b c d fit es))
         run-after
 
-    done-is : runOutcome plan images a b c d es room ≡ written (before .set .count) images (runOf before es) es room
-    unfolding runOutcome
-    done-is = rw e
-
     next-left : (let left = runOutcome plan images a b c d es room in
         runOutcome plan (left .images) (left .one) (left .two) (left .three) (left .four) more answers .number
         ≡ accepted)
@@ -146,7 +159,7 @@ module _ (plan images a b c d es room : List ℕ)
         subst
         (λ (o : Outcome).
         runOutcome plan (o .images) (o .one) (o .two) (o .three) (o .four) more answers .number ≡ accepted)
-        (sym done-is)
+        (sym (outcome-done plan images a b c d es room e))
         (subst Next (sym (run-together before es)) next-after)
 
 pub runs-again : RunsAgain
