@@ -9,7 +9,7 @@ set -eu
 
 fail() { printf 'kit: %s\n' "$*" >&2; exit 1; }
 
-command -v rt >/dev/null || fail "there is no rt on the PATH: install the Rattle kit first"
+command -v rt >/dev/null || fail "there is no rt on the PATH: proving needs the Rattle kit; README.md says what is done without it"
 guide=$(rt doc)
 kit=${guide%/docs/*}
 [ -d "$kit/on/$(uname -m)/toolchain/bin" ] || fail "the kit at $kit has no toolchain for this machine, $(uname -m)"

@@ -3,7 +3,7 @@
 # manual.sh FOLDER: makes manual pages and completions for shells of the texts that `fm3130 help` shows. What is written:
 #
 #   FOLDER/man/man1/fm3130.1            the command, and fm3130-COMMAND.1 for each of its commands
-#   FOLDER/man/man5/fm3130-script.5     how scripts are written
+#   FOLDER/man/man5/fm3130-script.5     how scripts are written, and so each page that is no command's
 #   FOLDER/bash, FOLDER/zsh, FOLDER/fish   what each shell offers behind `fm3130`
 #
 # A page says word for word what `fm3130 help` says. The commands are those of its list, the options of a command those of its
@@ -39,11 +39,17 @@ page() { # NAME SECTION
 }
 
 commands=$(awk '/^[A-Z]/ { inside = $0 == "COMMANDS" } inside && /^    [a-z]+  / { print $1 }' "$texts/help.txt" | paste -sd' ')
-page fm3130 1 <"$texts/help.txt" >"$folder/man/man1/fm3130.1"
-page fm3130-script 5 <"$texts/script.txt" >"$folder/man/man5/fm3130-script.5"
-for command in $commands; do
-    case $command in help | version) continue ;; esac
-    page "fm3130-$command" 1 <"$texts/$command.txt" >"$folder/man/man1/fm3130-$command.1"
+topics=''
+for text in "$texts"/*.txt; do
+    name=$(basename "$text" .txt)
+    case "$name, $commands " in
+    help,*) page fm3130 1 <"$text" >"$folder/man/man1/fm3130.1" ;;
+    *" $name "*) page "fm3130-$name" 1 <"$text" >"$folder/man/man1/fm3130-$name.1" ;;
+    *)
+        page "fm3130-$name" 5 <"$text" >"$folder/man/man5/fm3130-$name.5"
+        topics="$topics $name"
+        ;;
+    esac
 done
 
 # ---- completions
@@ -56,13 +62,13 @@ said_of() { # COMMAND
 
 # The options in a command's synopsis, each with the word behind it, FILE or PART or another, if it has one.
 options_of() { # COMMAND
-    case $1 in help | version) return ;; esac
+    [ -f "$texts/$1.txt" ] && [ "$1" != help ] || return 0
     awk '/^[A-Z]/ { inside = $0 == "SYNOPSIS" }
         inside { text = text " " $0 }
         END {
             gsub(/\[|\]/, " ", text)
             count = split(text, words, " ")
-            for (i = 1; i <= count; i++) if (words[i] ~ /^-/ && !(words[i] in seen)) {
+            for (i = 1; i <= count; i++) if (words[i] ~ /^--?[a-z]/ && !(words[i] in seen)) {
                 seen[words[i]] = 1
                 value = words[i + 1] ~ /^[A-Z]+(@SELECT)?$/ ? words[i + 1] : ""
                 sub(/@SELECT/, "", value)
@@ -79,7 +85,7 @@ options_of() { # COMMAND
     echo '    case $COMP_CWORD,${COMP_WORDS[COMP_CWORD - 1]},${COMP_WORDS[1]},$word in'
     printf '    1,*) offered="%s" ;;\n' "$commands"
     printf '    *,--part,*) offered="%s" ;;\n' "$parts"
-    printf '    *,help,*) offered="%s script" ;;\n' "$commands"
+    printf '    *,help,*) offered="%s" ;;\n' "$commands$topics"
     for command in $commands; do
         options=$(options_of "$command" | cut -d' ' -f1 | paste -sd' ')
         [ -z "$options" ] || printf '    *,%s,-*) offered="%s" ;;\n' "$command" "$options"
@@ -111,7 +117,7 @@ options_of() { # COMMAND
             }
             END { if (NR) print " \047*:file:_files\047 ;;" }'
     done
-    printf 'words,help) _values page %s script ;;\n' "$commands"
+    printf 'words,help) _values page %s ;;\n' "$commands$topics"
     echo 'esac'
 } >"$folder/zsh"
 
@@ -126,5 +132,5 @@ options_of() { # COMMAND
             printf "complete -c fm3130 -n \"__fish_seen_subcommand_from %s\" %s%s\n", command, name, value
         }'
     done
-    printf 'complete -c fm3130 -f -n "__fish_seen_subcommand_from help" -a "%s script"\n' "$commands"
+    printf 'complete -c fm3130 -f -n "__fish_seen_subcommand_from help" -a "%s"\n' "$commands$topics"
 } >"$folder/fish"

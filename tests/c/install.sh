@@ -29,16 +29,14 @@ grep -qx "Version: $version" "$installed/lib/pkgconfig/fm3130.pc" || fail "fm313
 grep -qx 'libdir=/usr/lib' "$installed/lib/pkgconfig/fm3130.pc" || fail "fm3130.pc names another folder"
 
 # Every page that is cited; a manual page for every command, with the words of its help.
+# shellcheck disable=SC2013 # a name is one word
 for page in $(grep -oh 'docs/[A-Z]*\.md' include/*.h | sort -u); do
     [ -f "$installed/share/doc/fm3130/${page#docs/}" ] || fail "$page is cited and not installed"
 done
 for text in rust/fm3130-cli/src/help/*.txt; do
     name=$(basename "$text" .txt)
-    case $name in
-    help) page=man1/fm3130.1 ;;
-    script) page=man5/fm3130-script.5 ;;
-    *) page=man1/fm3130-$name.1 ;;
-    esac
+    [ "$name" = help ] && name='' || name=-$name
+    page=$(cd "$installed/share/man" && ls man?/fm3130"$name".[15]) || fail "$text has no manual page"
     # Every line stands there, but for those with the name: the signs that a manual page needs are taken away again.
     sed -e 's/^\\&//' -e 's/\\-/-/g' -e 's/\\e/\\/g' -e 's/^\.SH //' "$installed/share/man/$page" >"$folder/page"
     missing=$(sed -e 1,3d -e 's/^    //' "$text" | grep -vxF -f "$folder/page" || true)
