@@ -6,10 +6,8 @@
 #   build/controller/sizes.txt            bytes of text and data, a line for each target and crate
 #   build/controller/stamp                a sum over all that these were made from
 #
-# build/bitcode/CRATE.bc is what tools/native-archive.sh kept. Before it is used it is compiled for x86-64 and
-# must be the official object byte for byte, so it is the program that was proved. For controllers the options
-# are the same but for the target and for position-independent code, of which firmware has no use. Nothing is
-# done while the stamp still fits.
+# build/bitcode/CRATE.bc is what tools/native-archive.sh kept; before it is used it is seen to be the program that was proved
+# (check_modules). Nothing is done while the stamp still fits.
 set -eu
 
 fail() { printf 'controller-archives: %s\n' "$*" >&2; exit 1; }
@@ -19,11 +17,6 @@ cd "$(dirname "$0")/.."
 . tools/controller-options.sh
 tools=$(tools/kit.sh)/on/$(uname -m)/toolchain/bin
 built=build/controller
-
-for crate in "$@"; do
-    [ -f "build/bitcode/$crate.bc" ] && [ -f "build/official/lib$crate.a" ] ||
-        fail "build/bitcode/$crate.bc is missing; make it by \`make lib\`"
-done
 
 # ---- what the archives are made from
 
@@ -43,15 +36,7 @@ mkdir -p "$built"
 work=$(mktemp -d)
 trap 'rm -rf "$work"' EXIT
 trap 'exit 1' HUP INT TERM
-
-# ---- the modules are the official ones
-
-for crate in "$@"; do
-    compile_module "build/bitcode/$crate.bc" "$work/x86_64.o" --target=x86_64-linux-gnu -fPIC
-    "$tools/llvm-ar" p "build/official/lib$crate.a" >"$work/official.o"
-    cmp -s "$work/x86_64.o" "$work/official.o" ||
-        fail "build/bitcode/$crate.bc compiled for x86-64 is not the official object"
-done
+check_modules "$@"
 
 # ---- an archive for each target
 
