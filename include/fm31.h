@@ -241,9 +241,8 @@ uint64_t fm3164_run(uint8_t *image, uint64_t image_length, uint8_t *memory, uint
  *   3      event is above 9
  *   4      told_length is 0
  *
- * Proved: SingleSettled, crates/rig31/specs/Single.antt; that it is the list run: AsTheListRun,
- * crates/larger/specs/Entry.antt. Allocates nothing, keeps nothing, thread-safe on distinct
- * buffers.
+ * Proved: SingleSettled, crates/rig31/specs/Single.antt, which says that it is the list run on
+ * this one event. Allocates nothing, keeps nothing, thread-safe on distinct buffers.
  */
 uint64_t fm3164_step(uint8_t *image, uint64_t image_length, uint8_t *memory, uint64_t memory_length,
                      uint64_t event, uint8_t *told, uint64_t told_length);

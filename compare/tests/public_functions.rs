@@ -95,20 +95,41 @@ fn is_bound(statement: &str) -> bool {
 /// Whether a record of a file of specs has fields, all of them equations.
 fn is_of_equations(specs: &str, record: &str) -> bool {
     let start = format!("pub record {record} ");
-    let mut lines = specs.lines().skip_while(|line| !line.starts_with(&start));
-    lines.next();
-    let fields: Vec<&str> = lines
+    let fields: Vec<&str> = specs
+        .lines()
+        .skip_while(|line| !line.starts_with(&start))
+        .skip_while(|line| !line.ends_with(" where"))
+        .skip(1)
         .take_while(|line| line.starts_with("  pub "))
         .collect();
     !fields.is_empty() && fields.iter().all(|field| is_equation(field))
 }
 
-/// The record of equations that a statement names, as the documents write it.
+/// What a definition is a value of, by a line such as `RanThrough .. = list.RanThrough ..`: a crate, a file and a name.
+fn general<'a>(specs: &'a str, name: &str) -> Option<(&'a str, &'a str, &'a str)> {
+    let start = format!("{name} ");
+    let line = specs.lines().find(|line| line.starts_with(&start))?;
+    let (alias, words) = line.split_once(" = ")?.1.split_once('.')?;
+    let end = format!(" as {alias}");
+    let place = specs
+        .lines()
+        .find_map(|line| line.strip_prefix("use Rattle·")?.strip_suffix(&end))?;
+    let (owner, file) = place.split_once(".specs.")?;
+    Some((owner, file, words.split(' ').next()?))
+}
+
+/// The record of equations that a statement names, or whose value it names, as the documents write it.
 fn record_named(statement: &str, uses: &Uses) -> Option<String> {
-    let record = statement.split(' ').next()?;
-    let (owner, file) = uses.get(record)?;
-    let specs = top().join("crates").join(owner).join("specs");
-    is_of_equations(&text_of(&specs.join(format!("{file}.antt"))), record)
+    let specs_of =
+        |owner: &str, file: &str| text_of(&top().join(format!("crates/{owner}/specs/{file}.antt")));
+    let name = statement.split(' ').next()?;
+    let (owner, file) = uses.get(name)?;
+    let specs = specs_of(owner, file);
+    if is_of_equations(&specs, name) {
+        return Some(format!("`{owner}/specs/{file}.{name}`"));
+    }
+    let (owner, file, record) = general(&specs, name)?;
+    is_of_equations(&specs_of(owner, file), record)
         .then(|| format!("`{owner}/specs/{file}.{record}`"))
 }
 

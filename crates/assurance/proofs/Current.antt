@@ -16,6 +16,7 @@ use Rattle.wire.specs.Machine.{clocked, lined}
 use Rattle.companion.specs.Part.{pinOf, lostOf}
 use Rattle.device.specs.Power.{fresh}
 use Rattle.device.specs.Event.{happening, eventOn}
+use Rattle.bus_list.specs.Run as list
 use Rattle.lists.specs.Run.{runOf, allKnown}
 use Rattle.clocks.specs.Events.{written, writeEvents}
 use Rattle.holding.specs.declared.Master.the-variants.{Rig}
@@ -24,7 +25,7 @@ use Rattle.assurance.specs.Current.{setRead, currentRead, lentBytes, sil
 use Rattle.assurance.proofs.Same.{same-answers}
 
 beside : Alongside Rig (λ a. true) fresh lentBytes silent aimed
-unfolding runOf allKnown happening eventOn lined clocked receivedAt sentAt placeAt pushed sentBit slaveNames answers opened kept more putByte pinOf lostOf writeEvents
+unfolding runOf list.allKnown happening eventOn lined clocked receivedAt sentAt placeAt pushed sentBit slaveNames answers opened kept more putByte pinOf lostOf writeEvents
 beside =
     record {
       between = refl;
@@ -35,12 +36,12 @@ beside =
 
 -- every read of the transaction has its address set
 reads : ReadsIn (λ a. true) false false fresh lentBytes setRead
-unfolding runOf allKnown happening eventOn lined clocked receivedAt sentAt placeAt pushed sentBit slaveNames answers opened kept more putByte pinOf lostOf writeEvents
+unfolding runOf list.allKnown happening eventOn lined clocked receivedAt sentAt placeAt pushed sentBit slaveNames answers opened kept more putByte pinOf lostOf writeEvents
 reads =
     (tt, (tt, (tt, (tt, (tt, (tt, (tt, (tt, (tt, (tt, (tt, (tt, (tt, (tt, (tt, (tt, (tt, (tt, (tt, (tt, (tt, (tt, (tt, (tt, (tt, (tt, (tt, (tt, (tt, (tt, (tt, (tt, (tt, (tt, (tt, (tt, (tt, (tt, ((refl, λ z. refl), ((refl, λ z. refl), ((refl, λ z. refl), ((refl, λ z. refl), ((refl, λ z. refl), ((refl, λ z. refl), ((refl, λ z. refl), ((refl, λ z. refl), ((refl, λ z. refl), (tt, tt))))))))))))))))))))))))))))))))))))))))))))))))
 
 pub no-assurance : NoAssurance
-unfolding runOf allKnown happening eventOn lined clocked receivedAt sentAt placeAt pushed sentBit slaveNames answers opened kept more putByte pinOf lostOf writeEvents
+unfolding runOf list.allKnown happening eventOn lined clocked receivedAt sentAt placeAt pushed sentBit slaveNames answers opened kept more putByte pinOf lostOf writeEvents
 no-assurance =
     record {
       alongside = beside;

@@ -3,8 +3,8 @@
 -- passes its own tests is the list run's, whose laws are used as they stand.
 -- Assumes nothing.
 use Prim.Native.Nat.{ℕ, _≤_, _<_}
-use mathlib.Core.Path.{_≡_, refl, sym, _∙_}
-use mathlib.Core.Bool.{true, false}
+use mathlib.Core.Path.{_≡_, refl, sym, ap, _∙_}
+use mathlib.Core.Bool.{Bool, true, false, cond}
 use mathlib.Core.List.{List, [], _∷_}
 use lib.ListN.{length}
 use borrow.Author.Tests.{eq-eqb, ne-eqb}
@@ -18,7 +18,8 @@ use Rattle.rig.specs.declared.Ran.{Ran}
 use Rattle.image.specs.declared.Decoded.the-variants.{Good, Bad}
 use Rattle.lists.proofs.Runs.{outcome-short-answers, outcome-written, outcome-done}
 use Rattle.holding.specs.Bus.{mayAsk, mayCall, masterNumber, standingOf}
-use Rattle.handheld.specs.Outcome.{askOf, AskSettled, refusedCall, ranCall, busAfter, callOf, CallSettled}
+use Rattle.handheld.specs.Outcome.{askOf, AskSettled, CallOutcome, refusedCall, ranCall, busAfter, callOn, isGood}
+use Rattle.handheld.specs.Outcome.{callOf, CallSettled}
 use Rattle.holding.specs.declared.Master.{Master}
 use Rattle.holding.specs.declared.Holder.{Holder}
 use Rattle.holding.specs.declared.Standing.the-variants.{Known, Unknown}
@@ -67,7 +68,11 @@ module _ (b : List ℕ) (x : ℕ) (i m es a : List ℕ) where
           module _ (c : mayCall g y es ≡ true) where
             pub call-ran : callOf b x i m es a ≡ ranCall (outcomeOf i m es a) es b
             unfolding callOf
-            call-ran = rw (eq-eqb (length m) memorySize h, d, q, k, c)
+            call-ran =
+                let good : isGood (decodeOf i) ≡ true = ap isGood d in
+                let on : Bool → CallOutcome =
+                λ t. cond t (callOn (standingOf b x) b i m es a) (refusedCall wrongState b i m a) in
+                rw (eq-eqb (length m) memorySize h) (ap on good ∙ rw (q, k, c))
 
             pub call-short-answers : length a < length es → callOf b x i m es a ≡ refusedCall shortAnswers b i m a
             call-short-answers l = call-ran ∙ rw (outcome-short-answers i m es a h s d k l) refl

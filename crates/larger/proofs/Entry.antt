@@ -22,10 +22,9 @@ use Rattle.family.specs.Run.{Ended, runOf, answerTo}
 use Rattle.family.specs.declared.State.{State}
 use Rattle.family.proofs.Lock.{serial-locked}
 use Rattle.image31.specs.Image.{imageOf, decodeOf}
+use Rattle.bus_list.specs.Run as list
 use Rattle.run31.specs.Run.{allKnown}
 use Rattle.rig31.specs.Run.{Outcome, outcomeOf}
-use Rattle.rig31.specs.Single.{singleOf}
-use Rattle.rig31.specs.Single as Single
 use Rattle.image31.specs.declared.Decoded.{Decoded}
 use Rattle.image31.specs.declared.Decoded.the-variants.{Good, Bad}
 use Rattle.image31.proofs.Images.{image-decode, decode-image}
@@ -33,11 +32,9 @@ use Rattle.run31.proofs.Runs.{run-ok}
 use Rattle.rig31.proofs.Runs.{outcome-written}
 use Rattle.rig31.proofs.Ends.{Accepted, accepted-outcome, accepted-by, run-refused}
 use Rattle.rig31.proofs.Pieces.{run-append, answers-length, known-append}
-use Rattle.rig31.proofs.Singles.{single-wrong-memory, single-wrong-image, single-unknown-event, single-short}
-use Rattle.rig31.proofs.Singles.{single-answered}
 use Rattle.parts.specs.Events.{clockEvent}
 use Rattle.parts.specs.Stored.{AtData, StoredAt}
-use Rattle.larger.specs.Entry.{upToNinth, CallStores, CallKeeps, LockedIn, CallLocks, AsTheListRun}
+use Rattle.larger.specs.Entry.{upToNinth, CallStores, CallKeeps, LockedIn, CallLocks}
 use Rattle.larger.proofs.Memory.{acknowledged-stored, protected-kept}
 
 good-is : {s t : State} → Good s ≡ Good t → s ≡ t
@@ -118,7 +115,7 @@ module _ (size : ℕ) where
         }
 
     high-accepted : Accepted size i m (upToNinth before byte true) a
-    unfolding allKnown
+    unfolding list.allKnown
     high-accepted =
         record {
           state = c .state;
@@ -165,47 +162,3 @@ module _ (size : ℕ) where
       let begun = subst (λ (x : Outcome). StoredAt (x .memory) (s .bus .address) w ended) first at in
       subst (λ (x : Outcome). StoredAt (outcomeOf size i m before a .memory) (s .bus .address) w (x .memory))
       (sym (accepted-outcome size i m all a c)) begun
-
-  -- what number 0 says of the buffers of the entry for one event
-  record OneAccepted (i m : List ℕ) (e : ℕ) (t : List ℕ) : Type 0 where
-    state : State
-    memory : length m ≡ size
-    image : decodeOf size lone i ≡ Good state
-    event : e ≤ lastEvent
-    room : 1 ≤ length t
-
-  abbrev number : Single.Outcome → ℕ
-  number o = o .number
-
-  one-accepted : (i m : List ℕ) (e : ℕ) (t : List ℕ) → singleOf size i m e t .number ≡ accepted → OneAccepted i m e t
-  one-accepted i m e t h =
-      by-test (eqb (length m) size)
-      (λ q. on-image (eqb-true (length m) size q) (decodeOf size lone i) refl)
-      (λ q. refuted 0 (ap number (single-wrong-memory size i m e t (eqb-false (length m) size q))))
-    where
-      refuted : (n : ℕ) → number (singleOf size i m e t) ≡ n + 1 → OneAccepted i m e t
-      refuted n q = let z : n + 1 ≡ 0 = sym q ∙ h in absurd (omega arith)
-
-      on-image : length m ≡ size → (d : Decoded) → decodeOf size lone i ≡ d → OneAccepted i m e t
-      on-image l Bad q = refuted 1 (ap number (single-wrong-image size i m e t l q))
-      on-image l (Good s) q =
-          by-test (leb e lastEvent)
-          (λ k. by-test (leb 1 (length t))
-          (λ r. record { state = s; memory = l; image = q; event = leb-true _ _ k; room = leb-true _ _ r })
-          (λ r. refuted 3 (ap number (single-short size i m e t l s q (leb-true _ _ k) (leb-false _ _ r)))))
-          (λ k. refuted 2 (ap number (single-unknown-event size i m e t l s q (leb-false _ _ k))))
-
-  pub as-the-list-run : AsTheListRun size
-  unfolding runOf allKnown
-  as-the-list-run i m e t h =
-      let a = one-accepted i m e t h in
-      let room = a .room in
-      let one = single-answered size i m e t (a .memory) (a .state) (a .image) (a .event) (a .room) in
-      let known : allKnown (e ∷ []) ≡ true = rw (le-leb e lastEvent (a .event)) in
-      let list = outcome-written size i m (e ∷ []) t (a .memory) (a .state) (a .image) known (omega arith) in
-      record {
-        number = ap (λ (o : Outcome). o .number) list;
-        image = ap (λ (o : Single.Outcome). o .image) one ∙ sym (ap (λ (o : Outcome). o .image) list);
-        memory = ap (λ (o : Single.Outcome). o .memory) one ∙ sym (ap (λ (o : Outcome). o .memory) list);
-        answer = ap (λ (o : Single.Outcome). o .told) one ∙ sym (ap (λ (o : Outcome). o .answers) list);
-      }

@@ -10,6 +10,7 @@ use lib.Dec.{leb}
 use borrow.Author.Tests.{lt-leb, leb-false}
 use Rattle.wire.proofs.Tests.{by-test}
 use Rattle.family.specs.Chip.{lastEvent}
+use Rattle.bus_list.specs.Run as list
 use Rattle.run31.specs.Run.{allKnown}
 use Rattle.rig31.specs.Run.{Outcome}
 use Rattle.rig31.proofs.Runs.{outcome-wrong-memory, outcome-wrong-image, outcome-unknown-event}
@@ -18,7 +19,7 @@ use Rattle.larger.specs.Numbers.{UnknownIn, EveryNumber}
 
 -- the test finds an unknown event wherever it stands
 found : (xs : List ℕ) (e : ℕ) (ys : List ℕ) → 10 ≤ e → allKnown (xs ++ (e ∷ ys)) ≡ false
-unfolding allKnown
+unfolding list.allKnown
 found [] e ys h = rw (lt-leb e lastEvent (omega arith))
 found (x ∷ xs) e ys h = rw (found xs e ys h) (and-false (leb x lastEvent))
 
@@ -37,7 +38,7 @@ behind x es u =
     }
 
 none-found : (es : List ℕ) → (UnknownIn es → ⊥) → allKnown es ≡ true
-unfolding allKnown
+unfolding list.allKnown
 none-found [] n = refl
 none-found (x ∷ es) n =
     by-test (leb x lastEvent)

@@ -9,7 +9,7 @@ use Rattle.larger.proofs.Edges.{edges-count, in-transfers-too, ticks-no
 use Rattle.larger.proofs.Memory.{acknowledged-stored, protected-kept, only-stores-protect}
 use Rattle.larger.proofs.Demand3.{demand-three}
 use Rattle.larger.proofs.Numbers.{every-number}
-use Rattle.larger.proofs.Entry.{call-stores, call-keeps, call-locks, as-the-list-run}
+use Rattle.larger.proofs.Entry.{call-stores, call-keeps, call-locks}
 
 pub both-sizes : BothSizes
 both-sizes =
@@ -28,5 +28,4 @@ both-sizes =
       call-stores = λ k. call-stores (sizeOf k) (size-positive k);
       call-keeps = λ k. call-keeps (sizeOf k);
       call-locks = λ k. call-locks (sizeOf k);
-      one-event = λ k. as-the-list-run (sizeOf k);
     }

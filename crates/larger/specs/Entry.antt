@@ -1,10 +1,9 @@
 -- SPDX-License-Identifier: Apache-2.0
--- Of the entries themselves, over the size: demand 2's two sentences about memory, the lock in bytes of images, and
--- that one event is the list of that event.
+-- Of the entries themselves, over the size: demand 2's two sentences about memory, and the lock in bytes of images. (That
+-- one event is the list of that event is its entry's contract: rig31/specs/Single.antt.)
 --   upToNinth                a list that ends with a byte and its ninth clock
 --   CallStores, CallKeeps    an acknowledged memory byte is stored; a protected address is unchanged
 --   CallLocks                a locked serial number stays
---   AsTheListRun             one event leaves and answers what the list of that event does
 -- Assumes nothing.
 use Prim.Native.Nat.{ℕ, _%_}
 use mathlib.Core.Path.{_≡_}
@@ -19,7 +18,6 @@ use Rattle.family.specs.Chip.{companion31}
 use Rattle.family.specs.declared.State.{State}
 use Rattle.image31.specs.Image.{decodeOf}
 use Rattle.rig31.specs.Run.{outcomeOf}
-use Rattle.rig31.specs.Single.{singleOf}
 use Rattle.image31.specs.declared.Decoded.the-variants.{Good}
 use Rattle.parts.specs.Events.{clockEvent}
 use Rattle.parts.specs.Stored.{Byte, AtData, StoredAt}
@@ -59,13 +57,3 @@ module _ (size : ℕ) where
   abbrev pub CallLocks : Type 0
   CallLocks =
       (i m es a : List ℕ) → has (getD i 2 0) SNL ≡ true → LockedIn i (outcomeOf size i m es a .image)
-
-  -- Of an accepted call for one event: image, memory and answer byte, in the same buffer.
-  pub record SameAsList (i m : List ℕ) (e : ℕ) (t : List ℕ) : Type 0 where
-    pub number : outcomeOf size i m (e ∷ []) t .number ≡ accepted
-    pub image : singleOf size i m e t .image ≡ outcomeOf size i m (e ∷ []) t .image
-    pub memory : singleOf size i m e t .memory ≡ outcomeOf size i m (e ∷ []) t .memory
-    pub answer : singleOf size i m e t .told ≡ outcomeOf size i m (e ∷ []) t .answers
-
-  abbrev pub AsTheListRun : Type 0
-  AsTheListRun = (i m : List ℕ) (e : ℕ) (t : List ℕ) → singleOf size i m e t .number ≡ accepted → SameAsList i m e t

@@ -12,7 +12,7 @@ use Rattle.larger.specs.Edges.{EdgesCount, InTransfersToo, TicksNothing}
 use Rattle.larger.specs.Memory.{AcknowledgedStored, ProtectedKept, OnlyStoresProtect}
 use Rattle.larger.specs.Demand3.{DemandThree}
 use Rattle.larger.specs.Numbers.{EveryNumber}
-use Rattle.larger.specs.Entry.{CallStores, CallKeeps, CallLocks, AsTheListRun}
+use Rattle.larger.specs.Entry.{CallStores, CallKeeps, CallLocks}
 
 abbrev pub EachSize : (ℕ → Type 0) → Type 0
 EachSize X = (k : Size) → X (sizeOf k)
@@ -36,4 +36,3 @@ pub record BothSizes : Type 0 where
   pub call-stores : EachSize CallStores
   pub call-keeps : EachSize CallKeeps
   pub call-locks : EachSize CallLocks
-  pub one-event : EachSize AsTheListRun

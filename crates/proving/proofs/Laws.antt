@@ -12,9 +12,10 @@ use lib.ListN.{length, replicate}
 use Rattle.device.specs.Chip.{memorySize}
 use Rattle.numbers.specs.Numbers.{accepted, wrongMemory, wrongState, unknownEvent, shortAnswers}
 use Rattle.device.specs.declared.State.{State}
-use Rattle.image.specs.Image.{decodeOf}
+use Rattle.image.specs.Image.{imageOf, decodeOf}
 use Rattle.image.specs.Reading.{decodedSays}
-use Rattle.lists.specs.Run.{runOf, allKnown}
+use Rattle.bus_list.specs.Outcome as list
+use Rattle.lists.specs.Run.{after, runOf, allKnown}
 use Rattle.lists.specs.Run as Plain
 use Rattle.image.specs.declared.Decoded.{Decoded}
 use Rattle.image.specs.declared.Decoded.the-variants.{Good, Bad}
@@ -41,24 +42,25 @@ module _ (i m es a b : List ℕ) where
   accepted-same : (s : State) (t u : Bool)
       → Same
       (cond t (cond u (written (runOf s m es) (provenBy (keptOf b) s m es) es a) (refused shortAnswers i m a b)) (refused unknownEvent i m a b))
-      (cond t (cond u (Plain.written (runOf s m es) es a) (Plain.refused shortAnswers i m a)) (Plain.refused unknownEvent i m a))
+      (cond t (cond u (list.written imageOf (runOf s m es) es a) (Plain.refused shortAnswers i m a)) (Plain.refused unknownEvent i m a))
   accepted-same s true true = record { number = refl; image = refl; memory = refl; answers = refl }
   accepted-same s true false = refused-same shortAnswers
   accepted-same s false u = refused-same unknownEvent
 
   decoded-same : (d : Decoded) → isKept b ≡ true
-      → Same (onDecoded d i m es a b) (Plain.onDecoded (decodedSays d .number) (decodedSays d .returned) i m es a)
+      → Same (onDecoded d i m es a b) (list.onDecoded after imageOf memorySize 7 (decodedSays d .number) (decodedSays d .returned) i m es a)
+  unfolding runOf
   decoded-same (Good s) k = rw k (accepted-same s (allKnown es) (leb (length es) (length a)))
   decoded-same Bad k = refused-same wrongState
 
   outcomes-same : (t : Bool) → isKept b ≡ true
       → Same (cond t (onDecoded (decodeOf i) i m es a b) (refused wrongMemory i m a b))
-      (cond t (Plain.onDecoded (decodedSays (decodeOf i) .number) (decodedSays (decodeOf i) .returned) i m es a) (Plain.refused wrongMemory i m a))
+      (cond t (list.onDecoded after imageOf memorySize 7 (decodedSays (decodeOf i) .number) (decodedSays (decodeOf i) .returned) i m es a) (Plain.refused wrongMemory i m a))
   outcomes-same true k = decoded-same (decodeOf i) k
   outcomes-same false k = refused-same wrongMemory
 
 pub as-the-list-run : AsTheListRun
-unfolding outcomeOf Plain.outcomeOf
+unfolding outcomeOf list.outcomeOf
 as-the-list-run i m es a b k =
     let s = outcomes-same i m es a b (eqb (length m) memorySize) k in
     record { number = s .number; image = s .image; memory = s .memory; answers = s .answers }

@@ -4,7 +4,7 @@
 -- Assumes nothing.
 use Prim.Native.Nat.{ℕ}
 use mathlib.Core.Path.{_≡_, sym, _∙_}
-use mathlib.Core.List.{List}
+use mathlib.Core.List.{List, [], _∷_}
 use Rattle.rig31.specs.Run.{RunSettled}
 use Rattle.rig31.specs.Fresh.{FreshSettled}
 use Rattle.rig31.specs.Single.{SingleSettled}
@@ -21,8 +21,7 @@ module _ (size : ℕ) where
   pub single-unique : (i m : List ℕ) (e : ℕ) (t : List ℕ) (n n₂ : ℕ) (i′ i₂ m′ m₂ t′ t₂ : List ℕ)
       → SingleSettled size i m e t n i′ m′ t′ → SingleSettled size i m e t n₂ i₂ m₂ t₂
       → (n ≡ n₂) × (i′ ≡ i₂) × (m′ ≡ m₂) × (t′ ≡ t₂)
-  single-unique i m e t n n₂ i′ i₂ m′ m₂ t′ t₂ p q =
-      let e = p ∙ sym q in (λ k. e k .number, λ k. e k .image, λ k. e k .memory, λ k. e k .told)
+  single-unique i m e t = run-unique i m (e ∷ []) t
 
 -- the fresh image: number and image
 pub fresh-unique : (i : List ℕ) (n n₂ : ℕ) (i′ i₂ : List ℕ)

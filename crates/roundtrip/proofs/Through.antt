@@ -13,6 +13,7 @@ use lib.Seq.{take-append-seam}
 use borrow.Author.Tests.{le-leb, lt-ltb, eq-eqb, ne-eqb}
 use Rattle.device.specs.Chip.{memorySize}
 use Rattle.image.specs.Image.{imageOf}
+use Rattle.bus_list.specs.Run as list
 use Rattle.lists.specs.Run.{Ended, runOf, allKnown, answersOver}
 use Rattle.image.proofs.Images.{decode-image, image-decode}
 use Rattle.lists.proofs.Runs.{run-ok, outcome-written}
@@ -33,7 +34,7 @@ known-clock true = refl
 known-clock false = refl
 
 known-nine : (b : ℕ) (d : Bool) (es : List ℕ) → allKnown es ≡ true → allKnown (nineClocks b d ++ es) ≡ true
-unfolding allKnown
+unfolding list.allKnown
 known-nine b d es h = simp known-clock h
 
 known-written : (bs es : List ℕ) → allKnown es ≡ true → allKnown (allWritten bs ++ es) ≡ true
@@ -45,23 +46,23 @@ known-on zero es h = h
 known-on (suc n) es h = known-nine 0xFF false (askedOn n ++ es) (known-on n es h)
 
 known-opens : (a : ℕ) (es : List ℕ) → allKnown es ≡ true → allKnown (opening a ++ es) ≡ true
-unfolding allKnown
+unfolding list.allKnown
 known-opens a es h =
     known-nine 0xA0 true (written (a / 256) ++ (written (a % 256) ++ es))
     (known-nine (a / 256) true (written (a % 256) ++ es) (known-nine (a % 256) true es h))
 
 pub known-write : (a : ℕ) (bs : List ℕ) → allKnown (writeEvents a bs) ≡ true
-unfolding writeEvents allKnown
+unfolding writeEvents list.allKnown
 known-write a bs = known-opens a (allWritten bs ++ (1 ∷ [])) (known-written bs (1 ∷ []) refl)
 
 known-all : (n : ℕ) → allKnown (allAsked n ++ (1 ∷ [])) ≡ true
-unfolding allKnown
+unfolding list.allKnown
 known-all zero = refl
 known-all (suc n) =
     rw (append-assoc (askedOn n) (asked true) (1 ∷ [])) (known-on n (asked true ++ (1 ∷ [])) (known-nine 0xFF true (1 ∷ []) refl))
 
 pub known-read : (a n : ℕ) → allKnown (readEvents a n) ≡ true
-unfolding readEvents allKnown
+unfolding readEvents list.allKnown
 known-read a n =
     known-opens a (0 ∷ (written 0xA1 ++ (allAsked n ++ (1 ∷ [])))) (known-nine 0xA1 true (allAsked n ++ (1 ∷ [])) (known-all n))
 

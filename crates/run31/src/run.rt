@@ -12,17 +12,11 @@ use bus::select::LONE;
 use family::LAST_EVENT;
 use family::State;
 
-// Whether every event byte is one of the ten. All are tested, with no way out of the loop, so that many go at once.
+// Whether every event byte is one of the ten.
 pub fn all_known(events: &[u8]) -> bool
     ensures { λ r. ⌜ r ≡ allKnown (now (events .entry)) ⌝ }
 {
-    let mut known = true;
-    let mut i = 0;
-    while i < events.len() {
-        known = known & (events[i] <= LAST_EVENT);
-        i += 1;
-    }
-    known
+    bus_list::all_known(events, LAST_EVENT)
 }
 
 // All events, one by one, from a well-formed state: the state they lead to. One record stays in the loop and is changed

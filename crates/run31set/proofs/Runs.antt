@@ -2,30 +2,17 @@
 -- The loops of the list run on a set, one event more and at the end; and that a list run is its events one by one,
 -- as the statements on sets have them.
 -- Assumes nothing.
-use Prim.Native.Nat.{ℕ, suc, _+_, _*_, _≤_, _<_}
+use Prim.Native.Nat.{ℕ, _+_, _≤_, _<_}
 use mathlib.Core.Path.{_≡_, refl, sym, ap, _∙_}
-use mathlib.Core.Bool.{Bool, _&&_, and-true, and-assoc}
+use mathlib.Core.Bool.{Bool}
 use mathlib.Core.List.{List, [], _∷_, map, append-assoc, append-nil}
 use native.Mathlib.Omega.{arith}
 use native.Mathlib.Numerals.{add-one}
-use lib.Dec.{ltb}
 use lib.ListN.{length, take, drop, getD, set, drop-of-length-le, take-append-drop}
 use lib.Seq.{take-suc-set, drop-cons}
 use Rattle.family.specs.Step.{answerByte}
 use Rattle.set31.specs.Set.{Together, afterEvent, lineTo, afterEvents, linesTo}
-use Rattle.run31set.specs.Run.{Ended, following, runOf, RanThrough, allKnown}
-
--- the test of the events: what was seen of them, and the rest
-module _ (n : ℕ) (es : List ℕ) (i : ℕ) (k : Bool) where
-  pub known-more : i < length es
-      → ((k && ltb (getD es i 0) (8 + 2 * n)) && allKnown n (drop (i + 1) es)) ≡ (k && allKnown n (drop i es))
-  unfolding allKnown
-  known-more h = rw (add-one, drop-cons es i 0) (and-assoc k (ltb (getD es i 0) (8 + 2 * n)) (allKnown n (drop (suc
-      i) es)))
-
-  pub known-end : length es ≤ i → (k && allKnown n (drop i es)) ≡ k
-  unfolding allKnown
-  known-end h = rw (drop-of-length-le es h) (and-true k)
+use Rattle.run31set.specs.Run.{Ended, following, runOf, RanThrough}
 
 -- one turn: the answer goes to its place, and the rest of the run goes on from the next set
 run-more : (t : Together) (es a : List ℕ) (i : ℕ) → i < length es → i < length a

@@ -6,10 +6,10 @@
 -- Assumes nothing.
 use Prim.Native.Nat.{ℕ, _+_, _*_}
 use mathlib.Core.Path.{_≡_}
-use mathlib.Core.Bool.{Bool, true, _&&_}
+use mathlib.Core.Bool.{Bool}
 use mathlib.Core.List.{List, [], _∷_, _++_}
-use lib.Dec.{ltb}
 use lib.ListN.{length, drop}
+use Rattle.bus_list.specs.Run as list
 use Rattle.family.specs.Step.{answerByte}
 use Rattle.set31.specs.Set.{Together, afterEvent, lineTo}
 
@@ -38,6 +38,5 @@ pub record RanThrough (t : Together) (es a : List ℕ) (r : Together) (a′ : Li
 
 -- Two edges a device after the eight events that all hear: number 3 from the first byte that names no device of the
 -- set.
-unfoldable pub allKnown : ℕ → List ℕ → Bool
-allKnown n [] = true
-allKnown n (e ∷ es) = ltb e (8 + 2 * n) && allKnown n es
+abbrev pub allKnown : ℕ → List ℕ → Bool
+allKnown n es = list.allKnown (7 + 2 * n) es

@@ -3,31 +3,18 @@
 ghost use mathlib.Core.Path.{_≡_};
 ghost use Prim.Native.Nat.{_≤_};
 ghost use lib.ListN.{length};
+ghost use Rattle.set31.specs.Set.{most};
 ghost use Rattle.set31.specs.Outcome.{lentTo, SetFit};
 ghost use Rattle.run31set.specs.Run.{allKnown, RanThrough};
 use family::step::answer_byte;
 use set31::Set;
 
-// A byte as a wider number.
-fn wide(byte: u8) -> u16
-    ensures { λ r. ⌜ r ≡ byte ⌝ }
-{
-    byte as u16
-}
-
-// Whether every event byte is known to a set of so many devices. All are tested, with no way out of the loop, so that
-// many go at once.
+// Whether every event byte is known to a set of so many devices.
 pub fn all_known(count: u8, events: &[u8]) -> bool
+    requires { ⌜ count ≤ most ⌝ }
     ensures { λ r. ⌜ r ≡ allKnown count (now (events .entry)) ⌝ }
 {
-    let limit = 8 + 2 * wide(count);
-    let mut known = true;
-    let mut i = 0;
-    while i < events.len() {
-        known = known & (wide(events[i]) < limit);
-        i += 1;
-    }
-    known
+    bus_list::all_known(events, 7 + 2 * count)
 }
 
 // All events, one by one: the set they lead to. The answers go to the front of their buffer.

@@ -23,6 +23,7 @@ use Rattle.numbers.specs.Numbers.{accepted}
 use Rattle.device.specs.declared.State.{State}
 use Rattle.device.proofs.Cases.{tick-supplied, tick-unsupplied, no-tick}
 use Rattle.image.specs.Image.{decodeOf}
+use Rattle.bus_list.specs.Run as list
 use Rattle.lists.specs.Run.{runOf, allKnown}
 use Rattle.lists.specs.Run as Run
 use Rattle.image.specs.declared.Decoded.{Decoded}
@@ -59,7 +60,7 @@ accepted-by i m e t h =
         (λ k. refuted 2 (ap (λ (o : Outcome). o .number) (single-unknown-event i m e t l s q (leb-false _ _ k))))
 
 pub as-the-list-run : AsTheListRun
-unfolding runOf allKnown
+unfolding runOf list.allKnown
 as-the-list-run i m e t h =
     let a = accepted-by i m e t h in
     let room = a .room in

@@ -17,6 +17,7 @@ use Rattle.device.specs.Event.{happening, eventOf}
 use Rattle.device.specs.Limits.{wellFormed}
 use Rattle.device.specs.declared.State.{State}
 use Rattle.device.proofs.Cases.{still, ticked, tick-supplied, tick-unsupplied}
+use Rattle.bus_list.specs.Run as list
 use Rattle.lists.specs.Run.{runOf, allKnown}
 use Rattle.lists.proofs.Runs.{run-ok}
 use Rattle.sleep.specs.Ticks.{ticksOf}
@@ -90,7 +91,7 @@ caught-none s = refl
 
 -- n ticks are n known events
 pub ticks-known : (n : ℕ) → allKnown (ticks n) ≡ true
-unfolding allKnown
+unfolding list.allKnown
 ticks-known zero = refl
 ticks-known (suc n) = ticks-known n
 

@@ -13,6 +13,7 @@ use Rattle.numbers.specs.Numbers.{accepted}
 use Rattle.device.specs.Event.{eventOf}
 use Rattle.device.specs.Answer.{pinShown}
 use Rattle.device.specs.declared.State.{State}
+use Rattle.bus_list.specs.Run as list
 use Rattle.lists.specs.Run.{Ended, answerTo, runOf, allKnown, outcomeOf}
 use Rattle.lists.specs.Calls.{Left, leftOf}
 use Rattle.image.proofs.Images.{image-decode}
@@ -92,7 +93,7 @@ module _ (i m before byte a : List ℕ) (d : Bool) (c : Accepted i m (upToNinth 
       })
 
   high-accepted : outcomeOf i m (upToNinth before byte true) a .number ≡ accepted
-  unfolding allKnown
+  unfolding list.allKnown
   high-accepted =
       accepted-number i m (upToNinth before byte true) a
       (record {

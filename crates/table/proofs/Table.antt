@@ -22,6 +22,7 @@ use Rattle.device.specs.Chip.{memorySize}
 use Rattle.device.specs.Event.{happening, eventOn}
 use Rattle.device.specs.Power.{fresh}
 use Rattle.image.specs.Image.{imageOf}
+use Rattle.bus_list.specs.Run as list
 use Rattle.lists.specs.Run.{runOf, allKnown, Outcome}
 use Rattle.image.proofs.Images.{decode-fresh}
 use Rattle.lists.proofs.Runs.{outcome-written}
@@ -29,7 +30,7 @@ use Rattle.table.specs.Table.{Gives, exactEvents, exactAnswers, Table}
 
 -- K12, by the list run's outcome on the fresh image
 exact-run : (m buffer : List ℕ) → length m ≡ memorySize → length buffer ≡ 11 → Gives m exactEvents exactAnswers buffer
-unfolding runOf happening eventOn clocked lined receivedAt placeAt pushed slaveNames answers opened kept pinOf lostOf allKnown
+unfolding runOf happening eventOn clocked lined receivedAt placeAt pushed slaveNames answers opened kept pinOf lostOf list.allKnown
 exact-run m buffer h b =
     let room : 11 ≤ length buffer = omega arith in
     let short : length buffer ≤ 11 = omega arith in

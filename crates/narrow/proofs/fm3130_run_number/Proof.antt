@@ -3,7 +3,7 @@
 -- Assumes nothing.
 use mathlib.Core.Path.{ap}
 use borrow.Author.Needs.{needs}
-use Rattle.narrow.specs.Number.{numbered}
+use Rattle.bus_list.specs.Outcome.{numbered}
 use Rattle.narrow.proofs.fm3130_run_number.Statement.{statement}
 use Rattle.narrow.proofs.fm3130_run_number.Tie as tie
 

@@ -3,7 +3,7 @@
 -- Assumes nothing.
 use borrow.Author.Needs.{needs}
 use borrow.Author.Tests.{eq-eqb, ne-eqb}
-use Rattle.rig.specs.Fresh.{freshOf}
+use Rattle.bus_list.specs.Fresh.{freshOf}
 use Rattle.rig.proofs.run.fm3130_fresh.Statement.{statement}
 use Rattle.rig.proofs.run.fm3130_fresh.Tie as tie
 

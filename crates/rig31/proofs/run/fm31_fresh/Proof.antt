@@ -3,7 +3,7 @@
 -- Assumes nothing.
 use borrow.Author.Needs.{needs}
 use borrow.Author.Tests.{eq-eqb, ne-eqb}
-use Rattle.rig31.specs.Fresh.{freshOf}
+use Rattle.bus_list.specs.Fresh.{freshOf}
 use Rattle.rig31.proofs.run.fm31_fresh.Statement.{statement}
 use Rattle.rig31.proofs.run.fm31_fresh.Tie as tie
 

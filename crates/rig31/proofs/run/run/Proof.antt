@@ -13,7 +13,7 @@ use Rattle.run31.specs.Run.{allKnown}
 use Rattle.image31.specs.Image.{decodeOf}
 use Rattle.image31.proofs.Images.{settled-decode, image-decode, decoded-length}
 use Rattle.rig31.proofs.Runs.{outcome-wrong-memory, outcome-wrong-image, outcome-unknown-event}
-use Rattle.rig31.proofs.Runs.{outcome-short-answers, outcome-done}
+use Rattle.rig31.proofs.Runs.{outcome-short-answers, outcome-done, told}
 use Rattle.rig31.proofs.run.run.Statement.{statement}
 use Rattle.rig31.proofs.run.run.Tie as tie
 
@@ -36,7 +36,7 @@ cast-result : tie.Need-cast-result
 cast-result c = search needs
 
 returns : tie.Need-returns
-returns c = sym (outcome-wrong-memory _ _ _ _ _ (c .if1 .taken))
+returns c = told (outcome-wrong-memory _ _ _ _ _ (c .if1 .taken))
 
 decode-requires : tie.Need-decode-requires
 decode-requires c κs = search needs
@@ -56,7 +56,7 @@ same-length c = search needs
 returns-2 : tie.Need-returns-2
 returns-2 c =
     let b = settled-decode _ _ _ _ (c .before .before .decode .ensures) ∙ c .enum-told .given .1 in
-    sym (outcome-wrong-image _ _ _ _ _ (c .before .before .before .before .if1 .left) b)
+    told (outcome-wrong-image _ _ _ _ _ (c .before .before .before .before .if1 .left) b)
 
 all-known-requires : tie.Need-all-known-requires
 all-known-requires c κs = search needs
@@ -71,7 +71,7 @@ returns-3 : tie.Need-returns-3
 returns-3 c =
     let d = c .before .before .before in
     let k = sym (c .before .all-known .ensures) ∙ not-true _ (c .if2 .taken) in
-    sym (outcome-unknown-event _ _ _ _ _ (long d) _ (read d) k)
+    told (outcome-unknown-event _ _ _ _ _ (long d) _ (read d) k)
 
 cast-result-4 : tie.Need-cast-result-4
 cast-result-4 c = search needs
@@ -82,7 +82,7 @@ same-length-3 c = search needs
 returns-4 : tie.Need-returns-4
 returns-4 c =
     let d = c .before .before .before .before in
-    sym (outcome-short-answers _ _ _ _ _ (long d) _ (read d) (known (c .before)) (c .if3 .taken))
+    told (outcome-short-answers _ _ _ _ _ (long d) _ (read d) (known (c .before)) (c .if3 .taken))
 
 run-events-requires : tie.Need-run-events-requires
 run-events-requires c κs =

@@ -30,7 +30,7 @@ cast-result : tie.Need-cast-result
 cast-result c = search needs
 
 returns : tie.Need-returns
-returns c = sym (single-wrong-memory _ _ _ _ _ (c .if1 .taken))
+returns c = single-wrong-memory _ _ _ _ _ (c .if1 .taken)
 
 decode-requires : tie.Need-decode-requires
 decode-requires c κs = search needs
@@ -50,7 +50,7 @@ same-length c = search needs
 returns-2 : tie.Need-returns-2
 returns-2 c =
     let b = settled-decode _ _ _ _ (c .before .before .decode .ensures) ∙ c .enum-told .given .1 in
-    sym (single-wrong-image _ _ _ _ _ (c .before .before .before .before .if1 .left) b)
+    single-wrong-image _ _ _ _ _ (c .before .before .before .before .if1 .left) b
 
 cast-if2 : tie.Need-cast-if2
 cast-if2 c = search needs
@@ -64,7 +64,7 @@ same-length-2 c = search needs
 returns-3 : tie.Need-returns-3
 returns-3 c =
     let d = c .before .before in
-    sym (single-unknown-event _ _ _ _ _ (long d) _ (read d) (c .if2 .taken))
+    single-unknown-event _ _ _ _ _ (long d) _ (read d) (c .if2 .taken)
 
 cast-result-4 : tie.Need-cast-result-4
 cast-result-4 c = search needs
@@ -75,7 +75,7 @@ same-length-3 c = search needs
 returns-4 : tie.Need-returns-4
 returns-4 c =
     let d = c .before .before .before in
-    sym (single-short _ _ _ _ _ (long d) _ (read d) (c .before .if2 .left) (c .if3 .taken))
+    single-short _ _ _ _ _ (long d) _ (read d) (c .before .if2 .left) (c .if3 .taken)
 
 cast-advance : tie.Need-cast-advance
 cast-advance c = search needs
@@ -116,7 +116,7 @@ returns-5 c =
       front-set (now (start d .args .told)) _ (t .if3 .left),
       a .result,
       a .memory,
-    ) (sym (single-answered _ _ _ _ _ (long d) _ (read d) (t .before .if2 .left) (t .if3 .left)))
+    ) (single-answered _ _ _ _ _ (long d) _ (read d) (t .before .if2 .left) (t .if3 .left))
 
 pub step-spec : {M : Type 1} → statement M
 step-spec =

@@ -5,8 +5,10 @@ use mathlib.Core.Path.{_≡_, sym, _∙_}
 use mathlib.Core.Bool.{true}
 use denote.Ref.{now}
 use borrow.Author.Needs.{needs}
-use borrow.Author.Tests.{not-true, not-false}
-use Rattle.set31.specs.Set.{Together}
+use lib.Dec.{leb}
+use borrow.Author.Tests.{not-true, not-false, leb-true}
+use Rattle.wire.proofs.Tests.{and-split}
+use Rattle.set31.specs.Set.{Together, most}
 use Rattle.set31.specs.Make.{isLent, placesAre, selectsDiffer, countFits}
 use Rattle.set31.specs.Outcome.{lentTo}
 use Rattle.run31set.specs.Run.{allKnown}
@@ -82,7 +84,9 @@ returns-3 c =
     .if3 .taken)))
 
 all-known-requires : tie.Need-all-known-requires
-all-known-requires c κs = search needs
+all-known-requires c κs =
+    let n = start (fitsBefore (lentBefore c)) .args .read .set .count in
+    leb-true n most (and-split (leb 1 n) (leb n most) (fits (fitsBefore (lentBefore c))) .1)
 
 returns-4 : tie.Need-returns-4
 returns-4 c =

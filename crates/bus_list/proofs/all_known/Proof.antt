@@ -7,16 +7,17 @@ use mathlib.Core.Bool.{_&&_}
 use denote.Ref.{now}
 use lib.ListN.{length, drop}
 use borrow.Author.Needs.{needs}
-use Rattle.lists.specs.Run.{allKnown}
-use Rattle.lists.proofs.Runs.{known-more, known-end}
-use Rattle.lists.proofs.all_known.Statement.{statement}
-use Rattle.lists.proofs.all_known.Tie as tie
+use Rattle.bus_list.specs.Run.{allKnown}
+use Rattle.bus_list.proofs.Runs.{known-more, known-end}
+use Rattle.bus_list.proofs.all_known.Statement.{statement}
+use Rattle.bus_list.proofs.all_known.Tie as tie
 
 abbrev Inv-loop : tie.InvT-loop
-Inv-loop events known₀ i₀ known i = (i ≤ length events) × ((known && allKnown (drop i events)) ≡ allKnown events)
+Inv-loop events last known₀ i₀ known i =
+    (i ≤ length events) × ((known && allKnown last (drop i events)) ≡ allKnown last events)
 
 abbrev μ-loop : tie.MeasureT-loop
-μ-loop events known₀ i₀ known i = length events - i
+μ-loop events last known₀ i₀ known i = length events - i
 
 loop-holds : tie.Need-loop-holds Inv-loop μ-loop
 loop-holds c = search needs
@@ -33,13 +34,14 @@ loop-less c = search needs
 loop-again : tie.Need-loop-again Inv-loop μ-loop
 loop-again c =
     let l = c .before .before .loop in
-    let es = now (c .before .before .before .args .events) in
-    (search needs, known-more es (l .i) (l .known) (search needs) ∙ l .inv .1)
+    let given = c .before .before .before .args in
+    (search needs, known-more (given .last) (now (given .events)) (l .i) (l .known) (search needs) ∙ l .inv .1)
 
 returns : tie.Need-returns Inv-loop μ-loop
 returns c =
     let l = c .before .loop in
-    sym (known-end (now (c .before .before .args .events)) (l .i) (l .known) (c .loop-test .left)) ∙ l .inv .1
+    let given = c .before .before .args in
+    sym (known-end (given .last) (now (given .events)) (l .i) (l .known) (c .loop-test .left)) ∙ l .inv .1
 
 pub all-known-spec : {M : Type 1} → statement M
 all-known-spec =
