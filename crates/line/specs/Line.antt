@@ -13,6 +13,7 @@ use Prim.Native.Nat.{ℕ, _+_, _%_}
 use mathlib.Core.Path.{_≡_}
 use mathlib.Core.Bool.{Bool, true, false, not, cond}
 use mathlib.Core.List.{List}
+use mathlib.Core.Option.{Option, some, none}
 use lib.Dec.{eqb, leb, ltb}
 use lib.ListN.{length}
 use Rattle.wire.specs.Bits.{pushed, sentBit}
@@ -26,14 +27,13 @@ use Rattle.wire.specs.declared.Named.the-variants.{Nobody, Reads, Writes}
 use Rattle.wire.specs.declared.Phase.{Phase}
 use Rattle.companion.specs.Part.{loadsBadDate, loadOf, guardOf}
 use Rattle.companion.specs.declared.Companion as C
-use Rattle.numbers.specs.Numbers.{wrongMemory, wrongState}
+use Rattle.numbers.specs.Numbers.{wrongMemory}
 use Rattle.device.specs.Chip.{memorySize, fm3130}
 use Rattle.device.specs.Event.{eventOf}
 use Rattle.device.specs.declared.State.{State}
 use Rattle.image.specs.Image.{decodeOf}
+use Rattle.image.specs.Reading.{decodedSays}
 use Rattle.lists.specs.Run.{answerTo}
-use Rattle.image.specs.declared.Decoded.{Decoded}
-use Rattle.image.specs.declared.Decoded.the-variants.{Good, Bad}
 
 -- Whether the device pulls a line low: of the next Clock; of the one after it, if the next is low, and if it is high.
 pub record Pulls : Type 0 where
@@ -57,13 +57,15 @@ pullsOf s m = record { next = pulls s m; low = pullsAfter s m 2; high = pullsAft
 abbrev pub toldBy : Pulls → ℕ
 toldBy p = cond (p .next) 0x100 0 + cond (p .low) 0x200 0 + cond (p .high) 0x400 0
 
-abbrev pub lineOn : Decoded → List ℕ → ℕ
-lineOn Bad m = wrongState
-lineOn (Good s) m = toldBy (pullsOf s m)
+abbrev pub lineOn : ℕ → Option State → List ℕ → ℕ
+lineOn n none m = n
+lineOn n (some s) m = toldBy (pullsOf s m)
 
 -- "Checked in the order of the numbers."
 unfoldable pub lineOf : List ℕ → List ℕ → ℕ
-lineOf i m = cond (eqb (length m) memorySize) (lineOn (decodeOf i) m) wrongMemory
+lineOf i m =
+    let read = decodedSays (decodeOf i) in
+    cond (eqb (length m) memorySize) (lineOn (read .number) (read .returned) m) wrongMemory
 
 -- The contract of `fm3130_line`; it is lent both buffers to read.
 abbrev pub LineSettled : List ℕ → List ℕ → ℕ → Type 0

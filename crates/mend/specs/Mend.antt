@@ -12,16 +12,16 @@ use Prim.Native.Nat.{ℕ}
 use mathlib.Core.Path.{_≡_}
 use mathlib.Core.Bool.{cond}
 use mathlib.Core.List.{List, _++_}
+use mathlib.Core.Option.{Option, some, none}
 use lib.Dec.{leb}
 use lib.ListN.{length, drop}
 use Rattle.calendar.specs.Mend.{mendedOf}
 use Rattle.companion.specs.Change.{withTime}
 use Rattle.companion.specs.declared.Companion.{Companion}
-use Rattle.numbers.specs.Numbers.{accepted, wrongState, shortAnswers}
+use Rattle.numbers.specs.Numbers.{accepted, shortAnswers}
 use Rattle.device.specs.declared.State.{State}
 use Rattle.image.specs.Image.{calendarBytes, imageOf, decodeOf}
-use Rattle.image.specs.declared.Decoded.{Decoded}
-use Rattle.image.specs.declared.Decoded.the-variants.{Good, Bad}
+use Rattle.image.specs.Reading.{decodedSays}
 use Rattle.mend.specs.Changes.{changesFrom, changedCount}
 use Rattle.mend.specs.declared.Mended.{Mended}
 
@@ -69,13 +69,13 @@ written s ch =
     }
 
 -- Refused by 4 where fewer bytes are lent than the list has.
-abbrev pub onDecoded : Decoded → List ℕ → List ℕ → Outcome
-onDecoded Bad i ch = refused wrongState i ch
-onDecoded (Good s) i ch = cond (leb (length (changesIn s)) (length ch)) (written s ch) (refused shortAnswers i ch)
+abbrev pub onDecoded : ℕ → Option State → List ℕ → List ℕ → Outcome
+onDecoded n none i ch = refused n i ch
+onDecoded n (some s) i ch = cond (leb (length (changesIn s)) (length ch)) (written s ch) (refused shortAnswers i ch)
 
 -- "Refuses an image by number 2 .. and else": image and lent bytes to the whole outcome.
 unfoldable pub mendOf : List ℕ → List ℕ → Outcome
-mendOf i ch = onDecoded (decodeOf i) i ch
+mendOf i ch = let read = decodedSays (decodeOf i) in onDecoded (read .number) (read .returned) i ch
 
 -- Auxiliary: what a call returned and left, as an outcome.
 abbrev pub outcomeWith : Mended → List ℕ → List ℕ → Outcome

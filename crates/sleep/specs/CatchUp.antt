@@ -10,6 +10,7 @@ use Prim.Native.Nat.{ℕ}
 use mathlib.Core.Path.{_≡_}
 use mathlib.Core.Bool.{cond, _||_}
 use mathlib.Core.List.{List, []}
+use mathlib.Core.Option.{Option, some, none}
 use lib.Dec.{leb}
 use lib.ListN.{replicate, getD}
 use lib.Seq.{sets}
@@ -19,13 +20,12 @@ use Rattle.registers.specs.Map.{W, R}
 use Rattle.companion.specs.declared.Alarm.{Alarm}
 use Rattle.days.specs.After.{mostTicks}
 use Rattle.device.specs.Bus.{withCompanion}
-use Rattle.numbers.specs.Numbers.{accepted, wrongState, tooManyTicks}
+use Rattle.numbers.specs.Numbers.{accepted, tooManyTicks}
 use Rattle.device.specs.declared.State.{State}
 use Rattle.image.specs.Image.{calendarBytes, imageOf, decodeOf}
+use Rattle.image.specs.Reading.{decodedSays}
 use Rattle.image.specs.Made.{Made}
 use Rattle.lists.specs.Run.{runOf}
-use Rattle.image.specs.declared.Decoded.{Decoded}
-use Rattle.image.specs.declared.Decoded.the-variants.{Good, Bad}
 use Rattle.sleep.specs.Ticks.{caughtOf}
 
 -- 01, Event bytes and answer bytes: "4 one-second tick": n of them.
@@ -57,16 +57,16 @@ abbrev pub CountedOn : ℕ → List ℕ → List ℕ → Type 0
 CountedOn n i i′ = (s : State) → i ≡ imageOf s → i′ ≡ imageOf (withCompanion s (caughtOf n (s .companion)))
 
 -- "Refused by number 8, after number 2, and changes nothing."
-abbrev pub caughtOn : Decoded → List ℕ → ℕ → Made
-caughtOn Bad i n = record { number = wrongState; image = i }
-caughtOn (Good s) i n =
+abbrev pub caughtOn : ℕ → Option State → List ℕ → ℕ → Made
+caughtOn r none i n = record { number = r; image = i }
+caughtOn r (some s) i n =
     cond (leb n mostTicks)
     (record { number = accepted; image = imageOf (caughtUp n s) })
     (record { number = tooManyTicks; image = i })
 
 -- Image and number of ticks to the whole outcome.
 unfoldable pub catchUpOf : List ℕ → ℕ → Made
-catchUpOf i n = caughtOn (decodeOf i) i n
+catchUpOf i n = let read = decodedSays (decodeOf i) in caughtOn (read .number) (read .returned) i n
 
 -- The contract of `fm3130_catch_up`: what it returns and leaves is `catchUpOf` of what it was given.
 abbrev pub CatchUpSettled : List ℕ → ℕ → ℕ → List ℕ → Type 0
