@@ -63,7 +63,7 @@ fn head_at(lines: &[&str], from: usize) -> Option<String> {
         let head: Vec<&str> = lines[from..]
             .iter()
             .copied()
-            .take_while(|line| *line != "{")
+            .take_while(|line| !["{", "{}"].contains(line))
             .collect();
         head.join(" ")
     })

@@ -24,6 +24,7 @@ use image::write::write_over;
 use registers::control::por_set;
 use registers::pin::pin_by;
 use ticking::tick;
+use ticking::unsaid;
 
 // Where the supplies lie, and their numbers.
 const SUPPLIES: usize = 25;
@@ -139,9 +140,7 @@ fn quiet(image: &mut [u8], event: u8)
     match event {
         0 => start(image),
         1 => stop(image),
-        4 => {
-            second(image);
-        }
+        4 => unsaid(second(image)),
         5 => lose(image),
         6 => lose_all(image),
         _ => restore(image),

@@ -14,6 +14,7 @@ use clocking::send::fetched;
 use resident::event::lined;
 use resident::event::shown;
 use ticking::counted;
+use ticking::unsaid;
 use wire::bits::push;
 use wire::bits::sending_line;
 
@@ -126,7 +127,7 @@ pub fn tick_row(image: &mut [u8], events: &[u8], answers: &mut [u8], from: usize
         if events[i] != 4 {
             return i;
         }
-        counted(image);
+        unsaid(counted(image));
         let pin = shown(image);
         answers[i] = pin + 1;
         i += 1;

@@ -62,15 +62,18 @@ returns c =
 counted-requires : tie.Need-counted-requires Inv-loop μ-loop
 counted-requires c κs = ap length (c .before .before .before .before .loop .inv .2) ∙ image-length _
 
+unsaid-requires : tie.Need-unsaid-requires Inv-loop μ-loop
+unsaid-requires c κs = search needs
+
 shown-requires : tie.Need-shown-requires Inv-loop μ-loop
 shown-requires c κs =
-    let l = c .before .before .before .before .before .before .before .before .loop in
-    let v = c .before .before .before .counted .ensures _ (l .inv .2) (ticking-parts _ (l .inv .3) .1 .1) in
+    let l = c .before .before .before .before .before .before .before .before .before .loop in
+    let v = c .before .before .before .before .counted .ensures _ (l .inv .2) (ticking-parts _ (l .inv .3) .1 .1) in
     ap length (v .1) ∙ image-length _
 
 add-answers : tie.Need-add-answers Inv-loop μ-loop
 add-answers c =
-    let at4 = c .before .before .before .before in
+    let at4 = c .before .before .before .before .before in
     let at9 = at4 .before .before .before .before .before in
     let l = at9 .loop in
     let v = at4 .counted .ensures _ (l .inv .2) (ticking-parts _ (l .inv .3) .1 .1) in
@@ -79,20 +82,20 @@ add-answers c =
 
 slice-write-answers : tie.Need-slice-write-answers Inv-loop μ-loop
 slice-write-answers c =
-    let at8 = c .before .before .before .before .before .before .before .before in
+    let at8 = c .before .before .before .before .before .before .before .before .before in
     let at9 = at8 .before in
     let at13 = at9 .before .before .before .before in
     omega (arith, at9 .loop .inv .4, at8 .loop-test .taken, at13 .pre .1 .1)
 
 add-i : tie.Need-add-i Inv-loop μ-loop
-add-i c = omega (arith, c .before .before .before .before .before .before .before .before .loop-test .taken)
+add-i c = omega (arith, c .before .before .before .before .before .before .before .before .before .loop-test .taken)
 
 loop-less : tie.Need-loop-less Inv-loop μ-loop
-loop-less c = omega (arith, c .before .before .before .before .before .before .before .before .loop-test .taken)
+loop-less c = omega (arith, c .before .before .before .before .before .before .before .before .before .loop-test .taken)
 
 loop-again : tie.Need-loop-again Inv-loop μ-loop
 loop-again c =
-    let at4 = c .before .before .before .before in
+    let at4 = c .before .before .before .before .before in
     let at6 = at4 .before .before in
     let at8 = at6 .before .before in
     let at9 = at8 .before in
@@ -137,6 +140,7 @@ tick-row-spec =
     same-length-2
     returns
     counted-requires
+    unsaid-requires
     shown-requires
     add-answers
     slice-write-answers

@@ -20,6 +20,9 @@ stop-requires c κs = image-long _ (c .before .before .before .pre .0)
 second-requires : tie.Need-second-requires
 second-requires c κs = image-long _ (c .before .before .before .pre .0)
 
+unsaid-requires : tie.Need-unsaid-requires
+unsaid-requires c κs = search needs
+
 lose-requires : tie.Need-lose-requires
 lose-requires c κs = image-long _ (c .before .before .before .pre .0)
 
@@ -61,7 +64,7 @@ same-length-3 c = search needs
 returns-3 : tie.Need-returns-3
 unfolding happening
 returns-3 c m =
-    let d = c .before .before in
+    let d = c .before .before .before in
     let h = d .before .before .before .before .pre .0 in
     let e = d .before .before .before .before .args .event in
     let x : happening e ≡ second = rw (d .before .before .match .keys3) refl in
@@ -113,6 +116,7 @@ quiet-spec =
     start-requires
     stop-requires
     second-requires
+    unsaid-requires
     lose-requires
     lose-all-requires
     restore-requires
