@@ -2,12 +2,12 @@
 -- The two sessions, computed: the second meets what the assurance asks, so a read that sets its address is answered alike by
 -- the theorem; the answers to a read from the current address are computed, and differ.
 -- Assumes nothing.
-use Prim.Native.Nat.{ℕ}
-use mathlib.Core.Path.{refl, ap}
+use Prim.Native.Nat.{ℕ, suc}
+use mathlib.Core.Path.{_≡_, refl, ap}
 use mathlib.Core.Bool.{true, false}
 use mathlib.Core.List.{List, _++_}
 use native.Mathlib.Omega.{arith}
-use lib.ListN.{getD}
+use lib.ListN.{length, getD}
 use Rattle.wire.specs.Bits.{pushed, sentBit, placeAt}
 use Rattle.wire.specs.Slave.{slaveNames, answers, opened}
 use Rattle.wire.specs.Clock.{kept, receivedAt, sentAt, more}
@@ -21,32 +21,37 @@ use Rattle.lists.specs.Run.{runOf, allKnown}
 use Rattle.clocks.specs.Events.{written, writeEvents}
 use Rattle.holding.specs.declared.Master.the-variants.{Rig}
 use Rattle.assurance.specs.Same.{Alongside, ReadsIn}
-use Rattle.assurance.specs.Current.{setRead, currentRead, lentBytes, silent, aimed, NoAssurance}
+use Rattle.assurance.specs.Current.{setRead, currentRead, lentBytes, silent, aimed, NoAssuranceOn, NoAssurance}
 use Rattle.assurance.proofs.Same.{same-answers}
 
-beside : Alongside Rig (λ a. true) fresh lentBytes silent aimed
-unfolding runOf list.allKnown happening eventOn lined clocked receivedAt sentAt placeAt pushed sentBit slaveNames answers opened kept more putByte pinOf lostOf writeEvents
-beside =
-    record {
-      between = refl;
-      one = tt;
-      two = (tt, ((tt, (tt, (tt, (tt, (tt, (tt, (tt, (tt, (tt, (tt, (tt, (tt, (tt, (tt, (tt, (tt, (tt, (tt, (tt, (tt, (tt, (tt, (tt, (tt, (tt, (tt, (tt, (tt, (tt, tt))))))))))))))))))))))))))))), tt));
-      alike = refl;
-    }
+module _ (rest : List ℕ) where
+  beside : Alongside Rig (λ a. true) fresh (lentBytes rest) silent aimed
+  unfolding runOf list.allKnown happening eventOn lined clocked receivedAt sentAt placeAt pushed sentBit slaveNames answers opened kept more putByte pinOf lostOf writeEvents
+  beside =
+      record {
+        between = refl;
+        one = tt;
+        two = (tt, ((tt, (tt, (tt, (tt, (tt, (tt, (tt, (tt, (tt, (tt, (tt, (tt, (tt, (tt, (tt, (tt, (tt, (tt, (tt, (tt, (tt, (tt, (tt, (tt, (tt, (tt, (tt, (tt, (tt, tt))))))))))))))))))))))))))))), tt));
+        alike = refl;
+      }
 
--- every read of the transaction has its address set
-reads : ReadsIn (λ a. true) false false fresh lentBytes setRead
-unfolding runOf list.allKnown happening eventOn lined clocked receivedAt sentAt placeAt pushed sentBit slaveNames answers opened kept more putByte pinOf lostOf writeEvents
-reads =
-    (tt, (tt, (tt, (tt, (tt, (tt, (tt, (tt, (tt, (tt, (tt, (tt, (tt, (tt, (tt, (tt, (tt, (tt, (tt, (tt, (tt, (tt, (tt, (tt, (tt, (tt, (tt, (tt, (tt, (tt, (tt, (tt, (tt, (tt, (tt, (tt, (tt, (tt, ((refl, λ z. refl), ((refl, λ z. refl), ((refl, λ z. refl), ((refl, λ z. refl), ((refl, λ z. refl), ((refl, λ z. refl), ((refl, λ z. refl), ((refl, λ z. refl), ((refl, λ z. refl), (tt, tt))))))))))))))))))))))))))))))))))))))))))))))))
+  -- every read of the transaction has its address set
+  reads : ReadsIn (λ a. true) false false fresh (lentBytes rest) setRead
+  unfolding runOf list.allKnown happening eventOn lined clocked receivedAt sentAt placeAt pushed sentBit slaveNames answers opened kept more putByte pinOf lostOf writeEvents
+  reads =
+      (tt, (tt, (tt, (tt, (tt, (tt, (tt, (tt, (tt, (tt, (tt, (tt, (tt, (tt, (tt, (tt, (tt, (tt, (tt, (tt, (tt, (tt, (tt, (tt, (tt, (tt, (tt, (tt, (tt, (tt, (tt, (tt, (tt, (tt, (tt, (tt, (tt, (tt, ((refl, λ z. refl), ((refl, λ z. refl), ((refl, λ z. refl), ((refl, λ z. refl), ((refl, λ z. refl), ((refl, λ z. refl), ((refl, λ z. refl), ((refl, λ z. refl), ((refl, λ z. refl), (tt, tt))))))))))))))))))))))))))))))))))))))))))))))))
+
+  there : length rest ≡ 8190 → NoAssuranceOn (lentBytes rest)
+  unfolding runOf list.allKnown happening eventOn lined clocked receivedAt sentAt placeAt pushed sentBit slaveNames answers opened kept more putByte pinOf lostOf writeEvents
+  there l =
+      record {
+        lent = ap (λ (n : ℕ). suc (suc n)) l;
+        alongside = beside;
+        same =
+            same-answers Rig (λ a. true) fresh (lentBytes rest) silent aimed (written 0xA0 ++ (written 0 ++ (written 0 ++ currentRead)))
+            beside reads;
+        differs = λ e. let q = ap (λ (l : List ℕ). getD l 10 0) e in omega arith;
+      }
 
 pub no-assurance : NoAssurance
-unfolding runOf list.allKnown happening eventOn lined clocked receivedAt sentAt placeAt pushed sentBit slaveNames answers opened kept more putByte pinOf lostOf writeEvents
-no-assurance =
-    record {
-      alongside = beside;
-      same =
-          same-answers Rig (λ a. true) fresh lentBytes silent aimed (written 0xA0 ++ (written 0 ++ (written 0 ++ currentRead)))
-          beside reads;
-      differs = λ e. let q = ap (λ (l : List ℕ). getD l 10 0) e in omega arith;
-    }
+no-assurance = there

@@ -83,6 +83,8 @@ module _ (w : World) (x : Master) (es a : List ℕ) (ok : wellFormed (w .state) 
         bus = ap (λ (z : CallOutcome). z .bus) o ∙ rw k refl;
         image = ap (λ (z : CallOutcome). z .run .image) o ∙ rw k refl;
         memory = ap (λ (z : CallOutcome). z .run .memory) o ∙ rw k refl;
+        count = ap (λ (z : CallOutcome). z .run .count) o ∙ rw k refl;
+        answers = ap (λ (z : CallOutcome). z .run .answers) o ∙ rw k refl;
       }
 
   not-held : allKnown es ≡ true → mayCall (w .holder) x es ≡ false → CallAs w x es a
@@ -94,6 +96,8 @@ module _ (w : World) (x : Master) (es a : List ℕ) (ok : wellFormed (w .state) 
         bus = ap (λ (z : CallOutcome). z .bus) o ∙ rw (k, c) refl;
         image = ap (λ (z : CallOutcome). z .run .image) o ∙ rw (k, c) refl;
         memory = ap (λ (z : CallOutcome). z .run .memory) o ∙ rw (k, c) refl;
+        count = ap (λ (z : CallOutcome). z .run .count) o ∙ rw (k, c) refl;
+        answers = ap (λ (z : CallOutcome). z .run .answers) o ∙ rw (k, c) refl;
       }
 
   freed : (f : Bool) → cond f (0 ∷ []) (busByte w) ≡ holderNumber (cond f Nobody (w .holder)) ∷ []
@@ -110,6 +114,8 @@ module _ (w : World) (x : Master) (es a : List ℕ) (ok : wellFormed (w .state) 
         bus = ap (λ (z : CallOutcome). z .bus) o ∙ rw (r, k, c) (freed (frees false es));
         image = ap (λ (z : CallOutcome). z .run .image) o ∙ (ap (λ (z : Outcome). z .image) r ∙ rw (k, c) refl);
         memory = ap (λ (z : CallOutcome). z .run .memory) o ∙ (ap (λ (z : Outcome). z .memory) r ∙ rw (k, c) refl);
+        count = ap (λ (z : CallOutcome). z .run .count) o ∙ (ap (λ (z : Outcome). z .count) r ∙ rw (k, c) refl);
+        answers = ap (λ (z : CallOutcome). z .run .answers) o ∙ (ap (λ (z : Outcome). z .answers) r ∙ rw (k, c) refl);
       }
 
   call-as : CallAs w x es a

@@ -4,12 +4,14 @@
 -- answered alike after both; one from the current address is not.
 --   currentRead, setRead     the two reads
 --   silent, aimed            the two sessions
---   NoAssurance              what is so
+--   NoAssuranceOn, NoAssurance   what is so, on a memory that the entries take
 -- Assumes nothing.
 use Prim.Native.Nat.{ℕ}
 use mathlib.Core.Path.{_≡_}
 use mathlib.Core.Bool.{true}
 use mathlib.Core.List.{List, [], _∷_, _++_}
+use lib.ListN.{length}
+use Rattle.device.specs.Chip.{memorySize}
 use Rattle.device.specs.Power.{fresh}
 use Rattle.clocks.specs.Events.{written, asked, writeEvents}
 use Rattle.holding.specs.declared.Master.the-variants.{Rig, Handheld}
@@ -24,9 +26,9 @@ currentRead = 0 ∷ (written 0xA1 ++ (asked true ++ (1 ∷ [])))
 abbrev pub setRead : List ℕ
 setRead = 0 ∷ (written 0xA0 ++ (written 0 ++ (written 0 ++ currentRead)))
 
--- Two bytes of memory that differ.
-abbrev pub lentBytes : List ℕ
-lentBytes = 0x00 ∷ 0xFF ∷ []
+-- A memory whose first two bytes differ.
+abbrev pub lentBytes : List ℕ → List ℕ
+lentBytes rest = 0x00 ∷ 0xFF ∷ rest
 
 abbrev pub silent : List Act
 silent = []
@@ -34,11 +36,16 @@ silent = []
 abbrev pub aimed : List Act
 aimed = asks Handheld ∷ calls Handheld (writeEvents 1 []) ∷ []
 
-pub record NoAssurance : Type 0 where
-  pub alongside : Alongside Rig (λ a. true) fresh lentBytes silent aimed
+pub record NoAssuranceOn (m : List ℕ) : Type 0 where
+  pub lent : length m ≡ memorySize
+  pub alongside : Alongside Rig (λ a. true) fresh m silent aimed
   pub same :
-      answersAfter (afterActs (begin fresh lentBytes) silent) setRead
-      ≡ answersAfter (afterActs (begin fresh lentBytes) aimed) setRead
+      answersAfter (afterActs (begin fresh m) silent) setRead
+      ≡ answersAfter (afterActs (begin fresh m) aimed) setRead
   pub differs :
-      answersAfter (afterActs (begin fresh lentBytes) silent) currentRead
-      ≡ answersAfter (afterActs (begin fresh lentBytes) aimed) currentRead → ⊥
+      answersAfter (afterActs (begin fresh m) silent) currentRead
+      ≡ answersAfter (afterActs (begin fresh m) aimed) currentRead → ⊥
+
+-- Whatever the other 8,190 bytes are: on a memory of a length that the entries take.
+abbrev pub NoAssurance : Type 0
+NoAssurance = (rest : List ℕ) → length rest ≡ 8190 → NoAssuranceOn (lentBytes rest)

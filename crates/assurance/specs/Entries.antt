@@ -6,8 +6,8 @@
 use Prim.Native.Nat.{ℕ, _≤_}
 use mathlib.Core.Path.{_≡_}
 use mathlib.Core.Bool.{true, cond}
-use mathlib.Core.List.{List, [], _∷_}
-use lib.ListN.{length}
+use mathlib.Core.List.{List, [], _∷_, _++_}
+use lib.ListN.{length, drop}
 use Rattle.device.specs.Chip.{memorySize}
 use Rattle.device.specs.Limits.{wellFormed}
 use Rattle.numbers.specs.Numbers.{accepted, notHeld}
@@ -15,7 +15,7 @@ use Rattle.image.specs.Image.{imageOf}
 use Rattle.holding.specs.Bus.{mayAsk, masterNumber, holderNumber}
 use Rattle.handheld.specs.Outcome.{askOf, callOf}
 use Rattle.holding.specs.declared.Master.{Master}
-use Rattle.assurance.specs.Session.{World, asks, calls, callNumber, afterAct}
+use Rattle.assurance.specs.Session.{World, asks, calls, callNumber, afterAct, answeredIn, answersIn}
 
 -- Auxiliary: the byte that says who holds the bus.
 abbrev pub busByte : World → List ℕ
@@ -34,6 +34,11 @@ pub record CallAs (w : World) (x : Master) (es a : List ℕ) : Type 0 where
   pub memory :
       callOf (busByte w) (masterNumber x) (imageOf (w .state)) (w .memory) es a .run .memory
       ≡ afterAct w (calls x es) .memory
+  pub count :
+      callOf (busByte w) (masterNumber x) (imageOf (w .state)) (w .memory) es a .run .count ≡ length (answeredIn w (calls x es))
+  pub answers :
+      callOf (busByte w) (masterNumber x) (imageOf (w .state)) (w .memory) es a .run .answers
+      ≡ answersIn w (calls x es) ++ drop (length (answeredIn w (calls x es))) a
 
 pub record AsTheEntries : Type 0 where
   pub ask : (w : World) (x : Master) → AskAs w x
