@@ -17,7 +17,7 @@ use Rattle.companion.specs.Part.{pinOf, lostOf}
 use Rattle.device.specs.Power.{fresh}
 use Rattle.device.specs.Event.{happening, eventOn}
 use Rattle.bus_list.specs.Run as list
-use Rattle.lists.specs.Run.{runOf, allKnown}
+use Rattle.lists.specs.Run.{runOf}
 use Rattle.clocks.specs.Events.{written, writeEvents}
 use Rattle.holding.specs.declared.Master.the-variants.{Rig}
 use Rattle.assurance.specs.Same.{Alongside, ReadsIn}

@@ -5,3 +5,4 @@ pub mod Bytes
 pub mod Example
 pub mod Needed
 pub mod Entry
+pub mod Whole

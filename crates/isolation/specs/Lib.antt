@@ -3,3 +3,4 @@ pub mod Demand3
 pub mod Example
 pub mod Needed
 pub mod Entry
+pub mod Whole
