@@ -9,3 +9,4 @@ pub mod Written
 pub mod Fixed
 pub mod Named
 pub mod Worked
+pub mod ReadBack
