@@ -4,7 +4,7 @@
 //! * Every file that a page or a comment names exists; and every definition, function, theorem, edit and family of lists that
 //!   a page names.
 //! * docs/EDITS.md has every edit, with the rule that it breaks.
-//! * D43 of docs/DECISIONS.md has every public enum.
+//! * D43 of docs/DECISIONS.md has every public enum, and the table of docs/READING.md every crate.
 //! * What stands between quotation marks is in the papers (D219).
 
 use compare::edits::{self, top};
@@ -246,6 +246,28 @@ fn every_enum_is_said_to_be_an_answer_or_none() {
         }
     }
     assert!(enums > 15, "{enums} enums are few");
+}
+
+/// The names in crates.txt, each in front of the crates that it stands on.
+fn crates() -> Vec<String> {
+    let list = text_of(&top().join("crates.txt")).unwrap();
+    let lines = list.lines().filter(|line| !line.starts_with('#'));
+    lines
+        .filter_map(|line| Some(line.split_once(':')?.0.trim().to_string()))
+        .collect()
+}
+
+#[test]
+fn every_crate_stands_in_the_table_of_crates() {
+    let page = text_of(&top().join("docs/READING.md")).unwrap();
+    let (_, part) = page.split_once("\n## The crates\n").unwrap();
+    let rows: Vec<&str> = part.lines().filter(|line| line.starts_with("| ")).collect();
+    let crates = crates();
+    assert!(crates.len() > 60, "{} crates are few", crates.len());
+    for name in crates {
+        let is_named = rows.iter().any(|row| row.contains(&format!("`{name}`")));
+        assert!(is_named, "docs/READING.md: The crates: {name} is missing");
+    }
 }
 
 #[test]
