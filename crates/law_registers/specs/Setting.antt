@@ -17,15 +17,11 @@ use Rattle.calendar.specs.declared.Calendar.{Calendar}
 use Rattle.device.specs.declared.State.{State}
 use Rattle.lists.specs.Run.{runOf}
 use Rattle.clocks.specs.Clocks.{nineClocks}
+use Rattle.clocks.specs.Events.{allWritten}
 use Rattle.law_registers.specs.Ticks.{ticks}
 
--- Auxiliary: data bytes, the master's line high at each ninth clock.
-abbrev pub dataClocks : List ℕ → List ℕ
-dataClocks [] = []
-dataClocks (b ∷ bs) = nineClocks b true ++ dataClocks bs
-
 abbrev pub writeRegisters : ℕ → List ℕ → List ℕ
-writeRegisters a bs = 0 ∷ (nineClocks 0xD0 true ++ (nineClocks a true ++ (dataClocks bs ++ (1 ∷ []))))
+writeRegisters a bs = 0 ∷ (nineClocks 0xD0 true ++ (nineClocks a true ++ (allWritten bs ++ (1 ∷ []))))
 
 -- 01, Registers: "02h to 08h: seconds, minutes, hours, day, date, month, year".
 abbrev pub calendarBytes : Calendar → List ℕ
