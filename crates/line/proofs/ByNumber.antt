@@ -13,6 +13,7 @@ use Rattle.wire.specs.Bits.{pushed}
 use Rattle.wire.specs.Slave.{slaveNames, answers}
 use Rattle.wire.specs.Limits.{bitsFit, phaseWithin}
 use Rattle.wire.specs.Memory.{Cells, lent}
+use Rattle.wire.specs.declared.Side.{Side}
 use Rattle.wire.specs.declared.Side.the-variants.{Memory, Companion}
 use Rattle.wire.specs.declared.Phase.{Phase}
 use Rattle.wire.specs.declared.Phase.the-variants.{Idle, Slave, AddressHigh, AddressLow, Pointer, Write, Read}
@@ -26,6 +27,7 @@ use Rattle.frame.proofs.Numbers.{number-below, read-phase}
 use Rattle.image.specs.Accepting.{isImage}
 use Rattle.image.specs.Image.{imageOf, companionAt, candidate}
 use Rattle.image.proofs.Accepts.{image-well, image-written}
+use Rattle.clocking.specs.Outgoing.{fetchedFrom}
 use Rattle.line.specs.Line.{pullsOf, pullsAt, pullsWith, toldBy, takenPulls, isTaken, fetchedOf}
 use Rattle.line.specs.Line.{lowBit, openedLow, followedLow, sentPulls}
 use Rattle.line.proofs.Lines.{line-at, idle-at, slave-pulls, high-pulls, low-pulls, pointer-pulls, put-pulls}
@@ -183,6 +185,16 @@ module _ (k b f : ℕ) where
 module _ (i m : List ℕ) (h : isImage i ≡ true) where
   abbrev cells : Cells
   cells = lent m (getD i 23 0 * 256 + getD i 24 0)
+
+  fetched-same : (x : Side) → fetchedFrom x (candidate i) m ≡ fetchedOf x cells (companionAt i)
+  unfolding candidate fetchedOf
+  fetched-same Memory = refl
+  fetched-same Companion = refl
+
+  -- the byte that a read sends, of the state and by its places
+  pub fetched-at : (f n : ℕ) → ((s : State) → i ≡ imageOf s → f ≡ fetchedFrom (sideOf n) s m)
+      → f ≡ fetchedOf (sideOf n) cells (companionAt i)
+  fetched-at f n e = e (candidate i) (sym (image-written i h)) ∙ fetched-same (sideOf n)
 
   below : (getD i 26 0 ≤ 8) × (getD i 26 0 ≡ 0 → getD i 27 0 ≡ 0)
   below = rw (image-written i h) at (image-numbered (candidate i))

@@ -18,6 +18,7 @@ ghost use Rattle.image.specs.Accepting.{isImage};
 ghost use Rattle.line.specs.Line.{pullsOf, pullsWith, toldBy, LineSettled};
 ghost use Rattle.line.specs.Line.{isTaken, fetchedOf, lowBit, sentPulls, openedLow};
 use accept::is_image;
+use clocking::send::fetched;
 use device::MEMORY_SIZE;
 use frame::bytes::pair;
 use image::MEMORY;
@@ -63,26 +64,9 @@ fn if_low(byte: u8, clocks: u8, weight: u64) -> u64
     weight
 }
 
-// The byte that a read sends next: it lies in the memory, or among the image's registers.
-fn fetched(image: &[u8], memory: &[u8], number: u8) -> u8
-    requires { ⌜ (length (now image) ≡ imageSize) × (length (now memory) ≡ memorySize) ⌝ }
-    requires { ⌜ (getD (now image) 22 0 ≤ 14) × (getD (now image) 23 0 * 256 + getD (now image) 24 0 < memorySize) ⌝ }
-    ensures { λ r. ⌜ r ≡ fetchedOf (sideOf number)
-        (lent (now (memory .entry)) (getD (now (image .entry)) 23 0 * 256 + getD (now (image .entry)) 24 0))
-        (companionAt (now (image .entry))) ⌝ }
-{
-    if number == 7 {
-        let at = pair(image[23], image[24]) as usize;
-        return memory[at];
-    }
-    let at = image[22] as usize;
-    image[at]
-}
-
 // A byte that goes out, by its phase's number.
 fn sent_pulls(image: &[u8], memory: &[u8], number: u8, clocks: u8, byte: u8) -> u64
-    requires { ⌜ (length (now image) ≡ imageSize) × (length (now memory) ≡ memorySize) ⌝ }
-    requires { ⌜ (getD (now image) 22 0 ≤ 14) × (getD (now image) 23 0 * 256 + getD (now image) 24 0 < memorySize) ⌝ }
+    requires { ⌜ (isImage (now image) ≡ true) × (length (now memory) ≡ memorySize) ⌝ }
     ensures { λ r. ⌜ r ≡ toldBy (sentPulls clocks byte (fetchedOf (sideOf number)
         (lent (now (memory .entry)) (getD (now (image .entry)) 23 0 * 256 + getD (now (image .entry)) 24 0))
         (companionAt (now (image .entry))))) ⌝ }
@@ -102,8 +86,7 @@ fn sent_pulls(image: &[u8], memory: &[u8], number: u8, clocks: u8, byte: u8) -> 
 
 // A slave byte that waits for its acknowledge: after it only a byte that is read can pull the line.
 fn opened_pulls(image: &[u8], memory: &[u8], byte: u8) -> u64
-    requires { ⌜ (length (now image) ≡ imageSize) × (length (now memory) ≡ memorySize) ⌝ }
-    requires { ⌜ (getD (now image) 22 0 ≤ 14) × (getD (now image) 23 0 * 256 + getD (now image) 24 0 < memorySize) ⌝ }
+    requires { ⌜ (isImage (now image) ≡ true) × (length (now memory) ≡ memorySize) ⌝ }
     ensures { λ r. ⌜ ((f : Bool) → f ≡ openedLow (slaveNames byte)
         (lent (now (memory .entry)) (getD (now (image .entry)) 23 0 * 256 + getD (now (image .entry)) 24 0))
         (companionAt (now (image .entry))) → r ≡ toldBy (pullsWith true f f)) ⌝ }

@@ -4,13 +4,18 @@
 use mathlib.Core.Path.{_∙_}
 use Rattle.wire.specs.Slave.{slaveNames}
 use Rattle.line.specs.Line.{lowBit, openedLow}
-use Rattle.line.proofs.ByNumber.{not-opened, told-opened}
+use denote.Ref.{now}
+use Rattle.image.proofs.Accepts.{image-long}
+use Rattle.image.proofs.Places.{image-places}
+use Rattle.line.proofs.ByNumber.{not-opened, told-opened, fetched-at}
 use borrow.Author.Needs.{needs}
 use Rattle.line.proofs.opened_pulls.Statement.{statement}
 use Rattle.line.proofs.opened_pulls.Tie as tie
 
 fetched-requires : tie.Need-fetched-requires
-fetched-requires c κs = search needs
+fetched-requires c κs =
+    let t = c .before .before .before in
+    ((image-long _ (t .pre .0), t .pre .1), image-places _ (now (t .args .memory)) (t .pre .1) (t .pre .0))
 
 if-low-requires : tie.Need-if-low-requires
 if-low-requires c κs = search needs
@@ -22,11 +27,14 @@ returns : tie.Need-returns
 unfolding openedLow slaveNames
 returns c =
     λ f e.
-    told-opened f (lowBit 0 (c .before .fetched .result)) _
-    (e ∙ rw (c .before .before .if1 .taken, c .before .fetched .ensures)) (c .if-low .ensures .0)
+    let t = c .before .before .before .before .before in
+    let g = fetched-at (now (t .args .image)) (now (t .args .memory)) (t .pre .0) _ 7 (c .before .fetched .ensures) in
+    told-opened f (lowBit 0 (c .before .fetched .result)) _ (e ∙ rw (c .before .before .if1 .taken, g)) (c .if-low .ensures .0)
 
 fetched-requires-2 : tie.Need-fetched-requires-2
-fetched-requires-2 c κs = search needs
+fetched-requires-2 c κs =
+    let t = c .before .before .before .before in
+    ((image-long _ (t .pre .0), t .pre .1), image-places _ (now (t .args .memory)) (t .pre .1) (t .pre .0))
 
 if-low-requires-2 : tie.Need-if-low-requires-2
 if-low-requires-2 c κs = search needs
@@ -38,8 +46,9 @@ returns-2 : tie.Need-returns-2
 unfolding openedLow slaveNames
 returns-2 c =
     λ f e.
-    told-opened f (lowBit 0 (c .before .fetched2 .result)) _
-    (e ∙ rw (c .before .before .if2 .taken, c .before .fetched2 .ensures)) (c .if-low2 .ensures .0)
+    let t = c .before .before .before .before .before .before in
+    let g = fetched-at (now (t .args .image)) (now (t .args .memory)) (t .pre .0) _ 8 (c .before .fetched2 .ensures) in
+    told-opened f (lowBit 0 (c .before .fetched2 .result)) _ (e ∙ rw (c .before .before .if2 .taken, g)) (c .if-low2 .ensures .0)
 
 returns-3 : tie.Need-returns-3
 returns-3 c = λ f e. rw (e, not-opened _ _ _ (c .before .if1 .left) (c .if2 .left))

@@ -5,7 +5,6 @@ use mathlib.Core.Path.{sym, refl, ap, _∙_}
 use native.Mathlib.Omega.{arith}
 use denote.Ref.{now}
 use Rattle.image.proofs.Accepts.{image-long}
-use Rattle.image.proofs.Places.{image-places}
 use Rattle.line.specs.Line.{toldBy}
 use Rattle.line.proofs.ByNumber.{line-sent, line-early, line-eighth, byte-below, line-opened, line-other}
 use Rattle.line.proofs.pulls_of.Statement.{statement}
@@ -28,10 +27,7 @@ shared-slice-read-byte c =
 
 sent-pulls-requires : tie.Need-sent-pulls-requires
 sent-pulls-requires c κs =
-    let t = c .before .before .before .before .before .before in (
-      (image-long _ (t .pre .0), t .pre .1),
-      image-places _ (now (t .args .memory)) (t .pre .1) (t .pre .0),
-    )
+    c .before .before .before .before .before .before .pre
 
 returns : tie.Need-returns
 returns c =
@@ -66,10 +62,7 @@ returns-3 c =
 
 opened-pulls-requires : tie.Need-opened-pulls-requires
 opened-pulls-requires c κs =
-    let t = c .before .before .before .before .before .before .before .before .before in (
-      (image-long _ (t .pre .0), t .pre .1),
-      image-places _ (now (t .args .memory)) (t .pre .1) (t .pre .0),
-    )
+    c .before .before .before .before .before .before .before .before .before .pre
 
 returns-4 : tie.Need-returns-4
 returns-4 c =

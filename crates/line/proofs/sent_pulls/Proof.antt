@@ -2,20 +2,27 @@
 -- The four ways through the tests of the clocks done.
 -- Assumes nothing.
 use native.Mathlib.Omega.{arith}
-use Rattle.line.proofs.ByNumber.{told-ninth, told-eighth, told-first, told-within}
+use denote.Ref.{now}
+use Rattle.image.proofs.Accepts.{image-long}
+use Rattle.image.proofs.Places.{image-places}
+use Rattle.line.proofs.ByNumber.{told-ninth, told-eighth, told-first, told-within, fetched-at}
 use borrow.Author.Needs.{needs}
 use Rattle.line.proofs.sent_pulls.Statement.{statement}
 use Rattle.line.proofs.sent_pulls.Tie as tie
 
 fetched-requires : tie.Need-fetched-requires
-fetched-requires c κs = search needs
+fetched-requires c κs =
+    let t = c .before .before .before in
+    ((image-long _ (t .pre .0), t .pre .1), image-places _ (now (t .args .memory)) (t .pre .1) (t .pre .0))
 
 if-low-requires : tie.Need-if-low-requires
 if-low-requires c κs = search needs
 
 returns : tie.Need-returns
 returns c =
-    told-ninth _ _ _ _ (c .before .before .if1 .taken) (rw (c .before .fetched .ensures) at (c .if-low .ensures .0))
+    let t = c .before .before .before .before .before in
+    let f = fetched-at (now (t .args .image)) (now (t .args .memory)) (t .pre .0) _ (t .args .number) (c .before .fetched .ensures) in
+    told-ninth _ _ _ _ (c .before .before .if1 .taken) (rw f at (c .if-low .ensures .0))
 
 if-low-requires-2 : tie.Need-if-low-requires-2
 if-low-requires-2 c κs = search needs
@@ -24,7 +31,9 @@ returns-2 : tie.Need-returns-2
 returns-2 c = told-eighth _ _ _ _ (c .before .if2 .taken) (c .if-low2 .ensures .0)
 
 fetched-requires-2 : tie.Need-fetched-requires-2
-fetched-requires-2 c κs = search needs
+fetched-requires-2 c κs =
+    let t = c .before .before .before .before .before in
+    ((image-long _ (t .pre .0), t .pre .1), image-places _ (now (t .args .memory)) (t .pre .1) (t .pre .0))
 
 if-low-requires-3 : tie.Need-if-low-requires-3
 if-low-requires-3 c κs = search needs
@@ -40,7 +49,9 @@ add-result c = search needs
 
 returns-3 : tie.Need-returns-3
 returns-3 c =
-    let f = c .before .before .fetched2 .ensures in
+    let n = c .before .before in
+    let t = n .before .before .before .before .before .before in
+    let f = fetched-at (now (t .args .image)) (now (t .args .memory)) (t .pre .0) _ (t .args .number) (n .fetched2 .ensures) in
     told-first _ _ _ _ _ (c .before .before .before .if3 .taken)
     (rw f at (c .before .if-low3 .ensures .0)) (rw f at (c .if-low4 .ensures .0))
 
