@@ -4,8 +4,10 @@
 use Prim.Native.Nat.{ℕ, _/_, _%_}
 use mathlib.Core.Path.{_≡_, refl}
 use mathlib.Core.Bool.{Bool, true, false, not, _&&_, _||_, true≢false, false≢true}
-use mathlib.Core.List.{List}
+use mathlib.Core.List.{List, [], _∷_}
+use borrow.Author.Tests.{not-true}
 use Rattle.wire.specs.declared.Phase.{Phase}
+use Rattle.wire.proofs.Tests.{and-split}
 use Rattle.calendar.specs.Next.{nextOf}
 use Rattle.bus.specs.declared.Power.{Power}
 use Rattle.bus.specs.declared.Power.the-variants.{On, Backup, Off}
@@ -15,7 +17,7 @@ use Rattle.companion.specs.declared.Companion.{Companion}
 use Rattle.device.specs.Event.{happening, eventOn}
 use Rattle.device.specs.declared.State.{State}
 use Rattle.lists.specs.Run.{runOf}
-use Rattle.law_alarm.specs.Second.{bit, supplied}
+use Rattle.law_alarm.specs.Second.{bit, supplied, after}
 use Rattle.law_alarm.specs.Counted.{Uncounted, UncountedUnchanged, Counted, EveryCounted}
 use Rattle.law_alarm.proofs.Flags.{flagged-rest}
 
@@ -40,42 +42,38 @@ module _ (q : Phase) (a : ℕ) (c : Companion) (m : List ℕ) where
   unchanged-by Backup false e h = absurd (true≢false h)
   unchanged-by Off t e h = record { state = refl; memory = refl }
 
-  counted-all : (p : Power) (t : Bool) → bit 128 (c .registers .trim) ≡ t → (supplied p && not t) ≡ true
-      → Counted (at p) m
-  unfolding runOf happening eventOn tickOf
-  counted-all On true e h = absurd (false≢true h)
-  counted-all On false e h =
+  -- where a supply is present event 4 is the companion's tick, whichever supply it is
+  record Ticks (p : Power) : Type 0 where
+    companion : after (at p) m ≡ tickOf c
+    power : runOf (at p) m (4 ∷ []) .state .power ≡ p
+    phase : runOf (at p) m (4 ∷ []) .state .phase ≡ q
+    address : runOf (at p) m (4 ∷ []) .state .address ≡ a
+    memory : runOf (at p) m (4 ∷ []) .memory ≡ m
+
+  ticks-by : (p : Power) → supplied p ≡ true → Ticks p
+  unfolding runOf happening eventOn
+  ticks-by On h = record { companion = refl; power = refl; phase = refl; address = refl; memory = refl }
+  ticks-by Backup h = record { companion = refl; power = refl; phase = refl; address = refl; memory = refl }
+  ticks-by Off h = absurd (false≢true h)
+
+  counted-by : (p : Power) → Ticks p → bit 128 (c .registers .trim) ≡ false → Counted (at p) m
+  unfolding tickOf
+  counted-by p t e =
+      let r = t .companion in
       record {
-        lb = rw e (kept .0);
-        porToR = rw e (kept .1);
-        core = rw e;
-        time = rw e;
-        trim = rw e;
-        alarm = rw e;
-        setup = rw e;
-        pointer = rw e;
-        power = refl;
-        phase = refl;
-        address = refl;
-        memory = refl;
+        lb = rw (r, e) (kept .0);
+        porToR = rw (r, e) (kept .1);
+        core = rw (r, e);
+        time = rw (r, e);
+        trim = rw (r, e);
+        alarm = rw (r, e);
+        setup = rw (r, e);
+        pointer = rw (r, e);
+        power = t .power;
+        phase = t .phase;
+        address = t .address;
+        memory = t .memory;
       }
-  counted-all Backup true e h = absurd (false≢true h)
-  counted-all Backup false e h =
-      record {
-        lb = rw e (kept .0);
-        porToR = rw e (kept .1);
-        core = rw e;
-        time = rw e;
-        trim = rw e;
-        alarm = rw e;
-        setup = rw e;
-        pointer = rw e;
-        power = refl;
-        phase = refl;
-        address = refl;
-        memory = refl;
-      }
-  counted-all Off t e h = absurd (false≢true h)
 
 pub uncounted-unchanged : UncountedUnchanged
 uncounted-unchanged s m h =
@@ -83,4 +81,6 @@ uncounted-unchanged s m h =
 
 pub every-counted : EveryCounted
 every-counted s m h =
-    counted-all (s .phase) (s .address) (s .companion) m (s .power) (bit 128 (s .companion .registers .trim)) refl h
+    let t = and-split (supplied (s .power)) (not (bit 128 (s .companion .registers .trim))) h in
+    counted-by (s .phase) (s .address) (s .companion) m (s .power)
+    (ticks-by (s .phase) (s .address) (s .companion) m (s .power) (t .0)) (not-true _ (t .1))
