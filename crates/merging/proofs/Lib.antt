@@ -1,4 +1,5 @@
 -- SPDX-License-Identifier: Apache-2.0
+pub mod Picked
 pub mod Reader
 pub mod Stands
 pub mod Own

@@ -17,10 +17,11 @@ use Rattle.bus.specs.Desk.{Desks, partOf}
 use Rattle.bus.specs.Happening.{happening}
 use Rattle.bus.specs.Event.{Done, doneOf, eventOn}
 use Rattle.bus.specs.declared.Power.the-variants.{On}
-use Rattle.merging.specs.Merge.{Said, by, eventsOf, keepIf, picked}
+use Rattle.merging.specs.Merge.{by, eventsOf, picked}
 use Rattle.merging.specs.Party.{isMemory, isCompanion, BusEvent, PartyEvent}
 use Rattle.merging.specs.Apart.{run, answersOf}
 use Rattle.merging.specs.Demand.{OnlyWrites, IfWritten, WritesSteady, Isolated}
+use Rattle.merging.proofs.Picked.{picked-map}
 use Rattle.merging.proofs.Demand.{isolation}
 use Rattle.parts.specs.Demand3 as bytes
 use Rattle.parts.specs.Events.{TicksHeard, Held, event, heldBy, answerTo, afterEvents, answersTo}
@@ -29,19 +30,6 @@ use Rattle.parts.specs.Demand3.{linesOf, DemandThree}
 line-bit : (n : ℕ) (d : Bool) → (2 * n + cond d 1 0) % 2 ≡ cond d 1 0
 line-bit n true = omega arith
 line-bit n false = omega arith
-
--- what is picked of a list that was mapped
-keep-map : {A B : Type 0} (f : A → B) (t : Bool) (a : A) (x : List B) (y : List A) → x ≡ map f y
-    → keepIf t (f a) x ≡ map f (keepIf t a y)
-keep-map {B = B} f true a x y e = ap (λ (z : List B). f a ∷ z) e
-keep-map f false a x y e = e
-
-picked-map : {I T A B : Type 0} (f : A → B) (mine : I → Bool) (l : List (Said I T)) (all : List A)
-    → picked mine l (map f all) ≡ map f (picked mine l all)
-picked-map f mine [] all = refl
-picked-map f mine (by i e ∷ l) [] = refl
-picked-map f mine (by i e ∷ l) (a ∷ all) =
-    keep-map f (mine i) a (picked mine l (map f all)) (picked mine l all) (picked-map f mine l all)
 
 module _ (size : ℕ) (names : ℕ → Named) (D : Desks) (T : TicksHeard D) where
   abbrev P : Machine.Parts

@@ -16,12 +16,13 @@ use Rattle.wire.specs.declared.Side.{Side}
 use Rattle.wire.specs.declared.Side.the-variants.{Memory, Companion}
 use Rattle.wire.specs.declared.Phase.{Phase}
 use Rattle.wire.specs.declared.Phase.the-variants.{Idle, Slave, AddressHigh, AddressLow, Pointer, Write, Read}
-use Rattle.merging.specs.Merge.{Reader, between, calling, moving, next, Calls, MayStand, Said, by, eventsOf}
+use Rattle.merging.specs.Merge.{Reader, between, calling, moving, next, Calls, MayStand, eventsOf}
 use Rattle.merging.specs.Merge.{keepIf, picked}
 use Rattle.merging.specs.Merge as Merge
 use Rattle.merging.specs.Party.{Party, to, foreign, MayName, isMemory, isCompanion, BusEvent, PartyEvent, Fair}
 use Rattle.merging.specs.Apart.{run, answersOf, KeptApart}
 use Rattle.merging.specs.Demand.{OnlyWrites, WritesSteady}
+use Rattle.merging.proofs.Picked.{picked-map}
 use Rattle.merging.proofs.Stands.{Byte, Stands, stands-next}
 use Rattle.merging.proofs.Own.{foreign-own}
 use Rattle.merging.proofs.Apart.{apart}
@@ -103,19 +104,6 @@ module _ (P : Parts) where
   told-phase : (u : State P) (z : Heard (P .Tick)) → run P u (told z) .phase ≡ u .phase
   told-phase u nothing = refl
   told-phase u (this t) = refl
-
--- what is looked at of answers
-keep-map : {A B : Type 0} (f : A → B) (t : Bool) (a : A) (x : List B) (y : List A) → x ≡ map f y
-    → keepIf t (f a) x ≡ map f (keepIf t a y)
-keep-map {B = B} f true a x y e = ap (λ (z : List B). f a ∷ z) e
-keep-map f false a x y e = e
-
-picked-map : {I T A B : Type 0} (f : A → B) (mine : I → Bool) (l : List (Said I T)) (all : List A)
-    → picked mine l (map f all) ≡ map f (picked mine l all)
-picked-map f mine [] all = refl
-picked-map f mine (by i e ∷ l) [] = refl
-picked-map f mine (by i e ∷ l) (a ∷ all) =
-    keep-map f (mine i) a (picked mine l (map f all)) (picked mine l all) (picked-map f mine l all)
 
 module _ (P : Parts) where
   answers-map : {Z : Type 0} (look : Answer P → Z) (s : State P) (es : List (BusEvent P))
