@@ -1,15 +1,16 @@
 -- SPDX-License-Identifier: Apache-2.0
--- A copy and a comparison of bytes, one byte more, and at the end; and that the comparison is equality.
+-- Bytes copied, cleared and compared, one byte more, and at the end; and that the comparison is equality.
 -- Assumes nothing.
 use Prim.Native.Nat.{ℕ, suc, _+_, _≤_, _<_}
 use mathlib.Core.Path.{_≡_, refl, sym, ap, _∙_}
 use mathlib.Core.Bool.{Bool, true, false, _&&_, and-true, and-false, and-assoc, false≢true}
-use mathlib.Core.List.{List, [], _∷_}
+use mathlib.Core.List.{List, [], _∷_, _++_, append-nil}
 use native.Mathlib.Omega.{arith}
 use native.Mathlib.Numerals.{add-one}
 use lib.Dec.{eqb}
-use lib.ListN.{length, take, drop, getD, set, drop-of-length-le}
+use lib.ListN.{length, take, drop, getD, set, replicate, drop-of-length-le}
 use lib.Seq.{take-all, take-suc, take-suc-set, drop-cons}
+use borrow.Author.Fill.{fill-more}
 use borrow.Author.Tests.{eq-eqb, eqb-true}
 use Rattle.wire.proofs.Tests.{and-split}
 use Rattle.frame.specs.Bytes.{sameBytes}
@@ -21,6 +22,14 @@ module _ (from to : List ℕ) (i : ℕ) where
 
   pub copy-done : length from ≤ i → length to ≡ length from → take i to ≡ take i from → to ≡ from
   copy-done h l e = sym (take-all i to (omega arith)) ∙ e ∙ take-all i from h
+
+  pub clear-more : i < length from → to ≡ replicate i 0 ++ drop i from
+      → set to i 0 ≡ replicate (i + 1) 0 ++ drop (i + 1) from
+  clear-more h e = rw e (fill-more i 0 from h)
+
+  pub clear-done : i ≡ length from → to ≡ replicate i 0 ++ drop i from → to ≡ replicate (length from) 0
+  clear-done h e =
+      let all : length from ≤ length from = omega arith in rw (e, h, drop-of-length-le from all) (append-nil _)
 
 -- the comparison: what was seen of the two, and the rest
 module _ (a b : List ℕ) (i : ℕ) (k : Bool) where

@@ -1,7 +1,7 @@
 // SPDX-License-Identifier: Apache-2.0
 // What the images of all parts have in common.
 //
-// bytes   a copy and a comparison of bytes
+// bytes   bytes cleared, copied, compared
 // layout  the supplies and the phase as numbers, and back
 pub mod bytes;
 pub mod layout;

@@ -2,6 +2,7 @@
 // The lamps as a program: events on standard input, one byte each, at most 65,536; FFh is no event and stands for a fresh
 // device with a memory of zeros and the record before any event. Each time the report changes a line is written: the place
 // of the byte in the input, counted from 0, and the report in hex, bit k for lamp k.
+use frame::bytes::clear;
 use image::LENGTH;
 use image::MEMORY;
 use kept::RECORD;
@@ -12,14 +13,6 @@ use rig::run::fm3130_fresh;
 
 // The byte that stands for a fresh device.
 const ANEW: u8 = 255;
-
-fn clear(bytes: &mut [u8]) {
-    let mut i = 0;
-    while i < bytes.len() {
-        bytes[i] = 0;
-        i += 1;
-    }
-}
 
 // A fresh device, its memory all 0, and the record before any event: all lamps are dark.
 fn begin(image: &mut [u8], memory: &mut [u8], record_bytes: &mut [u8]) {

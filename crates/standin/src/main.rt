@@ -14,6 +14,7 @@ ghost use Prim.Native.Nat.{_≤_};
 ghost use lib.ListN.{length};
 use accept::decode;
 use device::State;
+use frame::bytes::clear;
 use frame::bytes::copy;
 use frame::bytes::same;
 use image::Decoded;
@@ -62,14 +63,6 @@ fn sum_of(bytes: &[u8]) -> u64 {
 fn print_sum(bytes: &[u8]) {
     io::print_hex(STDOUT_FILENO, sum_of(bytes), 8);
     print(b"\n");
-}
-
-fn clear(bytes: &mut [u8]) {
-    let mut i = 0;
-    while i < bytes.len() {
-        bytes[i] = 0;
-        i += 1;
-    }
 }
 
 // A fresh device, its memory all 0.
