@@ -60,7 +60,8 @@ export class Problem extends Error {
     const blanks = signs.slice(0, column - 1).map((sign) => (sign === '\t' ? '\t' : ' ')).join('');
     const margin = ' '.repeat(String(line).length);
     const advice = this.advice === '' ? '' : `\n ${this.advice}`;
-    return `${name}:${line}:${column}: ${this.message}\n ${line} | ${printable}\n ${margin} | `
+    const message = this.message.replace(/(?![\t\n])\p{Cc}/gu, '\uFFFD');
+    return `${name}:${line}:${column}: ${message}\n ${line} | ${printable}\n ${margin} | `
       + `${blanks}${'^'.repeat(width)}${advice}`;
   }
 }
