@@ -1,8 +1,8 @@
 // SPDX-License-Identifier: Apache-2.0
 //! What a script expects, held beside what happens.
 //!
-//! A byte that is read must be sent by the device, and an acknowledge must be the device's own: a line that nobody pulls
-//! is neither.
+//! A byte that is read must be sent by the device, and an acknowledge must be the device's own: a line that nobody
+//! pulls is neither.
 
 use fm3130::{Phase, Pin};
 

@@ -1,8 +1,8 @@
 // SPDX-License-Identifier: Apache-2.0
 //! The known word that a typo may have been.
 
-/// The known word that is nearest to one, if it is near: a letter changed, left out, put in or changed places with its
-/// neighbour, one for every three letters.
+/// The known word that is nearest to one, if it is near: a letter changed, left out, put in or changed places with
+/// its neighbour, one for every three letters.
 pub fn nearest<'known>(
     word: &str,
     known: impl IntoIterator<Item = &'known str>,

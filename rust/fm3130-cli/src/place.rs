@@ -30,6 +30,7 @@ pub struct Place {
 
 impl Place {
     /// The place of one event of a list that begins in a state; the index must be one of the list's.
+    #[cfg(test)]
     pub fn of(events: &[u8], index: usize, state: &State) -> Option<Place> {
         let mut place = Place::before(state);
         for (at, event) in events.get(..=index)?.iter().enumerate() {
@@ -39,7 +40,7 @@ impl Place {
     }
 
     /// Before the first event: a transfer may be under way already.
-    fn before(state: &State) -> Place {
+    pub fn before(state: &State) -> Place {
         let is_inside = state.phase != Phase::Idle && state.power == Power::On;
         Place {
             event: 0,
@@ -56,7 +57,8 @@ impl Place {
         }
     }
 
-    fn take(&mut self, event: u8, at: usize) {
+    /// The next event, and where it stands.
+    pub fn take(&mut self, event: u8, at: usize) {
         let after_stop = self.event == event::STOP;
         self.event = event;
         match event {

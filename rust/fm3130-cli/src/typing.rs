@@ -31,7 +31,8 @@ impl Typed {
         }
     }
 
-    /// The next line that is a script; nothing at the end. What is wrong in a line is said, and nothing of it is played.
+    /// The next line that is a script; nothing at the end. What is wrong in a line is said, and nothing of it is
+    /// played.
     pub fn next(&mut self) -> Outcome<Option<Script>> {
         if !self.is_begun {
             say_aside("each line is played when it is ended; Control-D ends, `fm3130 help script` has the notation");

@@ -27,6 +27,23 @@ const CLOCK_FALLS: u64 = 9;
 /// Runs of ticks up to this length are drawn tick by tick; a longer one is one long pulse.
 const MOST_TICKS_DRAWN: u64 = 8;
 
+/// The scope that all wires stand in.
+const SCOPE: &str = "fm3130";
+
+/// How a view of ours begins; one that somebody else made is left alone.
+pub const VIEW_BEGIN: &str = "[*] fm3130 run\n";
+
+/// A view of all wires for GTKWave, which stands beside a waveform file of a name.
+pub fn view_of(name: &str, part: Part) -> String {
+    let mut view = format!("{VIEW_BEGIN}[dumpfile] \"{name}\"\n[timestart] 0\n@28\n");
+    for (index, (_, wire, _)) in WIRES.iter().enumerate() {
+        if Wire::is_of(index, part) {
+            view.push_str(&format!("{SCOPE}.{wire}\n"));
+        }
+    }
+    view
+}
+
 /// The wires in the order of the file.
 #[derive(Clone, Copy)]
 enum Wire {
@@ -147,11 +164,14 @@ impl<'run> Waveform<'run> {
         for ((_, name, meaning), _) in &wires {
             head.push_str(&format!("$comment {name}: {meaning} $end\n"));
         }
-        head.push_str("$timescale 1 us $end\n");
+        // The scope is what a viewer opens to find the wires.
+        head.push_str(&format!(
+            "$timescale 1 us $end\n$scope module {SCOPE} $end\n"
+        ));
         for ((letter, name, _), _) in &wires {
             head.push_str(&format!("$var wire 1 {letter} {name} $end\n"));
         }
-        head.push_str("$enddefinitions $end\n#0\n$dumpvars\n");
+        head.push_str("$upscope $end\n$enddefinitions $end\n#0\n$dumpvars\n");
         for ((letter, _, _), level) in &wires {
             head.push_str(&format!("{}{letter}\n", u8::from(*level)));
         }
@@ -236,6 +256,9 @@ impl<'run> Waveform<'run> {
     fn draw_ticks(&mut self) -> Outcome {
         let count = std::mem::take(&mut self.ticks);
         if count > MOST_TICKS_DRAWN {
+            // Whoever reads the waveform can tell how many they were.
+            let comment = format!("$comment ticks {count} $end\n");
+            self.file.write(comment.as_bytes())?;
             self.set(DATA, Wire::Tick, true)?;
             self.now += WINDOW * (MOST_TICKS_DRAWN - 1);
             self.set(CLOCK_FALLS, Wire::Tick, false)?;

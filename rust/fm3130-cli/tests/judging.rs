@@ -233,7 +233,9 @@ fn waveforms_of_scripts_without_ticks_agree() {
     assert_eq!(
         said,
         format!(
-            "all agree: {answers} answers of the part, in {count} events\n\
+            "all agree: {answers} answers of the part, in {count} events; 5 slave bytes name it\n\
+             the ACS pin agrees after {count} events\n\
+             also taken from wires: TICK, VDD, SUPPLIED, ACS, ACS_F1, ACS_F0\n\
              not judged: 10 Clocks not for the part\n"
         )
     );
@@ -259,7 +261,9 @@ fn a_waveform_without_the_acknowledge_differs() {
     let said = folder.succeed(&["judge", "--from-vcd", "other.vcd"]);
     assert_eq!(
         said,
-        "all agree: 1 answers of the part, in 22 events\n\
+        "all agree: 1 answers of the part, in 22 events; 1 slave byte names it\n\
+         the ACS pin agrees after 22 events\n\
+         also taken from wires: TICK, VDD, SUPPLIED, ACS, ACS_F1, ACS_F0\n\
          not judged: 1 Clock not for the part\n"
     );
     folder.write("ours.bus", "[ A1 ]");
@@ -332,7 +336,7 @@ fn a_recording_may_begin_with_a_hung_bus() {
     assert_eq!(ran.code, 0, "{}{}", ran.output, ran.errors);
     assert_eq!(
         ran.output,
-        "all agree: 1 answers of the part, in 20 events\n\
+        "all agree: 1 answers of the part, in 20 events; 1 slave byte names it\n\
          not judged: 8 Clocks outside any transfer\n"
     );
     // With a Start before it this would be the part's slave byte A0h, not acknowledged.
@@ -383,7 +387,7 @@ fn a_recording_may_begin_inside_a_byte() {
     assert_eq!(ran.code, 0, "{}{}", ran.output, ran.errors);
     assert_eq!(
         ran.output,
-        "all agree: 6 answers of the part, in 8 events\n"
+        "all agree: 6 answers of the part, in 8 events; in a transaction that was under way\n"
     );
     let ran = judge("#0 1! 0\" # 0!");
     assert_eq!((ran.code, ran.output.as_str()), (3, ""));
@@ -398,7 +402,10 @@ fn a_recording_may_begin_inside_a_byte() {
     folder.run_with(&[&["run", "-"], &words[..]].concat(), "{1111111} ]");
     let words = ["judge", "--from-vcd", "rest.vcd", "--image", "before"];
     let said = folder.succeed(&words);
-    assert_eq!(said, "all agree: 6 answers of the part, in 8 events\n");
+    assert_eq!(
+        said,
+        "all agree: 6 answers of the part, in 8 events; in a transaction that was under way\n"
+    );
 }
 
 #[test]

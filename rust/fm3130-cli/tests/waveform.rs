@@ -39,6 +39,8 @@ fn read(text: &str) -> Waveform {
                 assert!(names.contains_key(&letter), "an unknown wire");
                 changes.push((time.expect("a time"), letter, line.starts_with('1')));
             }
+            // How many ticks a long pulse stands for.
+            _ if line.starts_with("$comment ticks ") => assert!(line.ends_with(" $end"), "{line}"),
             _ => assert!(line == "$dumpvars" || line == "$end", "{line}"),
         }
     }

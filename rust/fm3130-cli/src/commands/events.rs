@@ -5,9 +5,12 @@ use std::ffi::OsString;
 use std::path::{Path, PathBuf};
 
 use fm3130::family::{Member, Set};
+use fm3130::Device;
 
+use super::waveform;
 use crate::amount::{self, Amount};
 use crate::arguments::{wrong, Arguments, Options};
+use crate::chip::Part;
 use crate::failure::Outcome;
 use crate::files::{self, NamedFile, Replacement};
 use crate::listing::Listing;
@@ -17,7 +20,7 @@ use crate::script::Cast;
 use crate::source::{FileSource, PlanSource, Source};
 
 const OPTIONS: Options = Options {
-    with_value: &["-o", "--list", "--part"],
+    with_value: &["-o", "--list", "--from-vcd", "--scl", "--sda", "--part"],
     alone: &[amount::OPTION],
 };
 
@@ -35,6 +38,10 @@ pub fn command(words: Vec<OsString>) -> Outcome {
     let target = arguments.path("-o");
     let is_large = arguments.has(amount::OPTION);
     let cast = cast_of(&arguments)?;
+    waveform::test_names(&arguments)?;
+    if let Some(path) = arguments.path("--from-vcd") {
+        return recorded(&arguments, script.is_some(), &path, &cast);
+    }
     match (script, arguments.path("--list")) {
         (Some(_), Some(_)) => Err(wrong("events takes a SCRIPT or --list, not both")),
         (None, None) => Err(wrong("events needs a SCRIPT or --list FILE")),
@@ -43,10 +50,45 @@ pub fn command(words: Vec<OsString>) -> Outcome {
             Cast::One(part) => list(FileSource::open(&path, part)?, is_large),
             Cast::Set(_) => Err(wrong("--list knows no sets")),
         },
-        (Some(path), None) => match target {
-            Some(target) => write(&path, &target, &cast, is_large),
-            None => print(source_of(&cast, &path)?, is_large),
-        },
+        (Some(path), None) => {
+            if let Some(target) = target.as_ref().filter(|_| !files::is_input(&path)) {
+                let named = |option, path| NamedFile { option, path };
+                files::must_differ(&[named("SCRIPT", &path), named("-o", target)])?;
+            }
+            give(source_of(&cast, &path)?, target, is_large)
+        }
+    }
+}
+
+/// Writes or prints the events of a waveform, of a device that was fresh before it.
+fn recorded(arguments: &Arguments, has_script: bool, path: &Path, cast: &Cast) -> Outcome {
+    if has_script || arguments.path("--list").is_some() {
+        return Err(wrong(
+            "events takes a SCRIPT, --list or --from-vcd, one of them",
+        ));
+    }
+    let Cast::One(Part::Fm3130) = cast else {
+        return Err(wrong("--from-vcd is for the FM3130 alone"));
+    };
+    let target = arguments.path("-o");
+    if let Some(target) = target.as_ref().filter(|_| !files::is_input(path)) {
+        let named = |option, path| NamedFile { option, path };
+        files::must_differ(&[named("--from-vcd", path), named("-o", target)])?;
+    }
+    let names = waveform::wire_names(arguments);
+    let steps = waveform::steps_of(path, &names, &Device::fresh().state())?;
+    give(
+        PlanSource::new(steps),
+        target,
+        arguments.has(amount::OPTION),
+    )
+}
+
+/// Gives the events of a source to a file, or prints them.
+fn give(source: impl Source, target: Option<PathBuf>, is_large: bool) -> Outcome {
+    match target {
+        Some(target) => write(source, &target, is_large),
+        None => print(source, is_large),
     }
 }
 
@@ -86,13 +128,8 @@ fn for_each_chunk(source: &mut dyn Source, mut take: impl FnMut(&[u8]) -> Outcom
     }
 }
 
-/// Writes the events of a script to a file.
-fn write(script: &Path, target: &Path, cast: &Cast, is_large: bool) -> Outcome {
-    if !files::is_input(script) {
-        let named = |option, path| NamedFile { option, path };
-        files::must_differ(&[named("SCRIPT", script), named("-o", target)])?;
-    }
-    let mut source = source_of(cast, script)?;
+/// Writes the events of a source to a file.
+fn write(mut source: impl Source, target: &Path, is_large: bool) -> Outcome {
     let name = files::name_of_written(target);
     amount::test(&[Amount::exactly(name, source.total())], is_large)?;
     let mut file = Replacement::open(target)?;
@@ -100,8 +137,8 @@ fn write(script: &Path, target: &Path, cast: &Cast, is_large: bool) -> Outcome {
     files::commit_all(vec![file])
 }
 
-/// Prints the events of a script as text.
-fn print(mut source: PlanSource, is_large: bool) -> Outcome {
+/// Prints the events of a source as text.
+fn print(mut source: impl Source, is_large: bool) -> Outcome {
     let bytes = source.total().saturating_mul(BYTES_AS_TEXT);
     amount::test(&[Amount::exactly("standard output", bytes)], is_large)?;
     let mut output = Output::new();

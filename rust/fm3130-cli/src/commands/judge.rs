@@ -2,20 +2,22 @@
 //! `fm3130 judge`: the verdict on a capture, or on a waveform of the two wires.
 
 use std::ffi::OsString;
+use std::io::BufRead;
 use std::path::{Path, PathBuf};
 
 use fm3130::capture::{self, Capture, Entry, Fault, Verdict};
 use fm3130::{Answer, Device};
 
+use super::waveform;
 use crate::arguments::{wrong, Arguments, Options};
-use crate::bus::{self, Listener};
+use crate::bus::{self, Grouping, Listener, Observer, Outputs};
 use crate::chip::{Chip, Part, State};
 use crate::drawing::Drawing;
 use crate::failure::{Failure, Outcome};
 use crate::files::{self, NamedFile, Replacement};
 use crate::output::{say_aside, Output};
 use crate::place::{self, Place};
-use crate::recording::{self, Giver, Seen};
+use crate::recording::{self, Counts, Recording, Seen};
 use crate::source::ListSource;
 use crate::transcript::Transcript;
 
@@ -28,15 +30,12 @@ const OPTIONS: Options = Options {
         "--sda",
         "--svg",
     ],
-    alone: &[],
+    alone: &["--words"],
 };
 
 /// The most events that are shown before the one that differs, and after it.
 const MOST_BEFORE: usize = 120;
 const MOST_AFTER: usize = 40;
-
-/// The longest waveform file that is read.
-const MOST_WAVEFORM_BYTES: usize = 64 << 20;
 
 /// Judges a capture or a waveform.
 pub fn command(words: Vec<OsString>) -> Outcome {
@@ -45,15 +44,18 @@ pub fn command(words: Vec<OsString>) -> Outcome {
     let recorded = Recorded::named(&arguments)?;
     test_files(&arguments, recorded.path())?;
     let mut picture = Picture::asked(arguments.path("--svg"));
+    let has_words = arguments.has("--words");
     let told = match &recorded {
         Recorded::Capture(path) => {
             let file = files::read_or_input(path, capture::MOST_BYTES)?;
-            judge_capture(path, &file, &mut picture)
+            judge_capture(path, &file, has_words, &mut picture)
         }
         Recorded::Waveform(path) => {
             let begin = starting_device(&arguments)?;
-            let bytes = files::read_or_input(path, MOST_WAVEFORM_BYTES)?;
-            judge_waveform(path, &bytes, &begin, &wire_names(&arguments), &mut picture)
+            let names = waveform::wire_names(&arguments);
+            waveform::open(path).and_then(|input| {
+                judge_waveform(path, input, &begin, &names, has_words, &mut picture)
+            })
         }
     };
     match told {
@@ -110,16 +112,6 @@ fn test_files(arguments: &Arguments, file: &Path) -> Outcome {
         .map(|(option, path)| NamedFile { option, path })
         .collect();
     files::must_differ(&named)
-}
-
-/// The names of the clock's wire and of the data's.
-fn wire_names(arguments: &Arguments) -> [String; 2] {
-    [("--scl", "SCL"), ("--sda", "SDA")].map(|(option, otherwise)| {
-        let given = arguments.path(option);
-        given.map_or(otherwise.to_string(), |name| {
-            name.to_string_lossy().into_owned()
-        })
-    })
 }
 
 /// The picture that was asked for, if one was.
@@ -183,41 +175,38 @@ impl Picture {
 }
 
 /// Judges a capture.
-fn judge_capture(path: &Path, file: &[u8], picture: &mut Picture) -> Outcome {
-    tell(path, file, picture, |count| match count {
-        0 => vec!["no answers: the capture has no events".to_string()],
-        count => vec![Verdict::Agree { count }.to_string()],
-    })
-}
-
-/// Says the verdict on a capture; all but an agreement, whose words are given, is a failure.
-fn tell(
-    path: &Path,
-    file: &[u8],
-    picture: &mut Picture,
-    agreement: impl Fn(usize) -> Vec<String>,
-) -> Outcome {
+fn judge_capture(path: &Path, file: &[u8], has_words: bool, picture: &mut Picture) -> Outcome {
     let verdict = capture::judge(file);
     let words = format!("{}: {verdict}", files::name_of(path));
-    match verdict {
-        Verdict::Agree { count } => {
-            let mut output = picture.words();
-            for line in agreement(count) {
-                output.line(&line)?;
-            }
-            output.finish()
-        }
+    let window = match verdict {
+        Verdict::Faulty { entry } => return Err(Failure::Refused(words + &reason(file, entry))),
+        Verdict::TooLong => return Err(Failure::Refused(words)),
+        _ => Window::of_capture(file).ok_or(Failure::Refused(words.clone()))?,
+    };
+    let (end, difference) = match verdict {
         Verdict::Differs {
             place,
             recorded,
             right,
-        } => {
-            tell_difference(file, place, (Answer(recorded), Answer(right)), picture)?;
-            Err(Failure::Differs(words))
-        }
-        Verdict::Faulty { entry } => Err(Failure::Refused(words + &reason(file, entry))),
-        Verdict::TooLong => Err(Failure::Refused(words)),
+        } => (place + 1, Some((place, Answer(recorded), Answer(right)))),
+        _ => (window.events.len(), None),
+    };
+    let mut output = picture.words();
+    if has_words {
+        let mut transcript = Transcript::new(&mut output);
+        let mut told = Told::begin(&mut transcript, &window.device);
+        told.say(&window.events[..end])?;
+        told.finish()?;
     }
+    if let Some(difference) = difference {
+        tell_difference(&window, difference, picture, &mut output)?;
+        return Err(Failure::Differs(words));
+    }
+    output.line(&match verdict {
+        Verdict::Agree { count: 0 } => "no answers: the capture has no events".to_string(),
+        verdict => verdict.to_string(),
+    })?;
+    output.finish()
 }
 
 /// Why an entry is faulty, in words. An image of another part is no image here, and its mark says whose it is.
@@ -236,49 +225,208 @@ fn reason(file: &[u8], entry: usize) -> String {
     format!(": {fault}{}", whose.unwrap_or_default())
 }
 
-/// Judges a waveform, as a capture that begins with a device.
+/// Judges a waveform of any length: in pieces, each a capture that begins with the device that the piece before it
+/// left. A list may be cut anywhere, so the verdicts are those of the whole.
 fn judge_waveform(
     path: &Path,
-    bytes: &[u8],
+    input: impl BufRead,
     begin: &Device,
-    [clock, data]: &[String; 2],
+    names: &[String; 2],
+    has_words: bool,
     picture: &mut Picture,
 ) -> Outcome {
-    let of_waveform =
-        |problem: &str| Failure::Script(format!("{}: {problem}", files::name_of(path)));
-    if bytes.len() > MOST_WAVEFORM_BYTES {
-        return Err(of_waveform("the file is longer than 64 MiB"));
+    let of_waveform = |words: String| waveform::failure(path, &words);
+    let mut recording = Recording::open(input, names, &begin.state()).map_err(of_waveform)?;
+    let mut window = Window::before(begin.clone());
+    let mut output = picture.words();
+    let mut transcript = Transcript::new(&mut output);
+    let mut told = Told::begin(&mut transcript, begin);
+    let mut difference = None;
+    while difference.is_none() {
+        let piece = recording.piece(capture::MOST_EVENTS).map_err(of_waveform)?;
+        if piece.is_empty() {
+            break;
+        }
+        difference = window.take(&piece)?;
+        if has_words {
+            let last = difference.map_or(window.end(), |(index, ..)| index + 1);
+            told.say(&window.events[window.piece - window.first..last - window.first])?;
+        }
     }
-    let text = String::from_utf8_lossy(bytes);
-    let seen = recording::read(&text, clock, data, &begin.state())
-        .map_err(|problem| of_waveform(&problem))?;
-    let file = capture_of(&seen, begin)?.ok_or_else(|| {
-        let (found, most) = (seen.len(), capture::MOST_EVENTS);
-        of_waveform(&format!(
-            "{found} events are too many; a capture holds {most}"
-        ))
-    })?;
-    tell(path, &file, picture, |_| agreement_of(&seen))
+    told.finish()?;
+    if let Some(difference) = difference {
+        if let Some(words) = recording.seems_swapped() {
+            return Err(of_waveform(words));
+        }
+        tell_difference(&window, difference, picture, &mut output)?;
+        return Err(differs(path, difference));
+    }
+    let counts = recording.finish().map_err(of_waveform)?;
+    for line in agreement_of(&counts, window.pins, &recording.beside()) {
+        output.line(&line)?;
+    }
+    output.finish()
 }
 
-/// A capture made of a waveform: the line is the recorded one, and the ACS pin, which the two wires
-/// do not show, that of the rules. Nothing where it would be too long.
-fn capture_of(seen: &[Seen], begin: &Device) -> Outcome<Option<Vec<u8>>> {
-    let events: Vec<u8> = seen.iter().map(|one| one.event).collect();
-    let mut answers = begin
-        .clone()
-        .run(&events)
+/// Says that an answer of a recording differs.
+fn differs(path: &Path, (place, recorded, right): Difference) -> Failure {
+    let verdict = Verdict::Differs {
+        place,
+        recorded: recorded.0,
+        right: right.0,
+    };
+    Failure::Differs(format!("{}: {verdict}", files::name_of(path)))
+}
+
+/// Tells a recording in words, as much as is given.
+struct Told<'run> {
+    device: Chip,
+    grouping: Grouping<'run>,
+}
+
+impl<'run> Told<'run> {
+    fn begin(transcript: &'run mut Transcript<'_>, device: &Device) -> Told<'run> {
+        let device = Chip::from(device.clone());
+        let grouping = Grouping::new(vec![transcript], &device.state(), None);
+        Told { device, grouping }
+    }
+
+    fn say(&mut self, events: &[u8]) -> Outcome {
+        let mut outputs = Outputs {
+            observers: vec![&mut self.grouping],
+            prints: true,
+            answers: None,
+            recording: None,
+            lamps: None,
+        };
+        bus::play_some(&mut self.device, &mut ListSource::new(events), &mut outputs)
+    }
+
+    fn finish(&mut self) -> Outcome {
+        self.grouping.finish()
+    }
+}
+
+/// An answer that differs: its place in the recording, what was recorded, what is right.
+type Difference = (usize, Answer, Answer);
+
+/// The last two pieces of a recording: enough to show what is around an event of the second.
+struct Window {
+    /// The device before the first event.
+    device: Device,
+    /// Where the first event stands in the recording.
+    first: usize,
+    /// The place before the first event.
+    place: Place,
+    events: Vec<u8>,
+    /// Where the second piece begins, the device before it, and the place.
+    piece: usize,
+    device_of_piece: Device,
+    place_of_piece: Place,
+    /// The device after the last event.
+    after: Device,
+    /// After how many events a wire showed the pin.
+    pins: usize,
+}
+
+impl Window {
+    /// Before the first piece.
+    fn before(device: Device) -> Window {
+        let place = Place::before(&device.state());
+        Window {
+            first: 0,
+            place,
+            events: Vec::new(),
+            piece: 0,
+            device_of_piece: device.clone(),
+            place_of_piece: place,
+            after: device.clone(),
+            device,
+            pins: 0,
+        }
+    }
+
+    /// The whole of a sound capture.
+    fn of_capture(file: &[u8]) -> Option<Window> {
+        let capture = Capture::in_file(file)?;
+        let device = Device::from_parts(capture.image, capture.memory).ok()?;
+        Some(Window {
+            events: capture.events.to_vec(),
+            ..Window::before(device)
+        })
+    }
+
+    fn end(&self) -> usize {
+        self.first + self.events.len()
+    }
+
+    /// Judges the next piece, which the proved judge sees as a capture; gives the first answer that differs.
+    fn take(&mut self, piece: &[Seen]) -> Outcome<Option<Difference>> {
+        self.leave_first();
+        let events: Vec<u8> = piece.iter().map(|one| one.event).collect();
+        let (file, after, pins) = capture_of(piece, &events, &self.after)?;
+        self.events.extend(&events);
+        self.after = after;
+        self.pins += pins;
+        match capture::judge(&file) {
+            Verdict::Agree { .. } => Ok(None),
+            Verdict::Differs {
+                place,
+                recorded,
+                right,
+            } => Ok(Some((self.piece + place, Answer(recorded), Answer(right)))),
+            // The piece was made to be sound, so this cannot be; it must not seem to agree.
+            verdict => Err(Failure::Refused(verdict.to_string())),
+        }
+    }
+
+    /// The piece that was last is the first, and the one before it is forgotten.
+    fn leave_first(&mut self) {
+        let kept = self.events.split_off(self.piece - self.first);
+        let end = self.piece + kept.len();
+        let mut place = self.place_of_piece;
+        for (at, event) in (self.piece..).zip(&kept) {
+            place.take(*event, at);
+        }
+        self.device = std::mem::replace(&mut self.device_of_piece, self.after.clone());
+        self.place = std::mem::replace(&mut self.place_of_piece, place);
+        self.first = std::mem::replace(&mut self.piece, end);
+        self.events = kept;
+    }
+}
+
+impl Window {
+    /// The place of an event of the window.
+    fn place_of(&self, index: usize) -> Option<Place> {
+        let mut place = self.place;
+        let events = self.events.get(..=index.checked_sub(self.first)?)?;
+        for (at, event) in (self.first..).zip(events) {
+            place.take(*event, at);
+        }
+        Some(place)
+    }
+}
+
+/// A capture made of a piece of a waveform: the line is the recorded one, and the ACS pin, where no wire shows it,
+/// that of the rules. Also the device after it, and after how many events a wire showed the pin.
+fn capture_of(piece: &[Seen], events: &[u8], begin: &Device) -> Outcome<(Vec<u8>, Device, usize)> {
+    let mut device = begin.clone();
+    let mut answers = device
+        .run(events)
         .map_err(|refusal| Failure::Refused(refusal.to_string()))?;
-    for (answer, one) in answers.iter_mut().zip(seen) {
-        *answer = *answer & !1 | u8::from(one.line_is_high);
+    let mut pins = 0;
+    for (answer, one) in answers.iter_mut().zip(piece) {
+        pins += usize::from(one.pin.is_judged(Answer(*answer).pin()));
+        *answer = one.pin.in_answer(*answer) & !1 | u8::from(one.line_is_high);
     }
     let capture = Capture {
         image: begin.image(),
         memory: begin.memory(),
-        events: &events,
+        events,
         answers: &answers,
     };
-    Ok(capture.to_file())
+    let too_long = || Failure::Refused("a piece of the recording is too long".to_string());
+    Ok((capture.to_file().ok_or_else(too_long)?, device, pins))
 }
 
 /// The device that a waveform begins with: fresh but for the files that are named, which must be there.
@@ -303,19 +451,28 @@ fn there(loaded: files::Loaded, path: &Path) -> Outcome<Vec<u8>> {
 }
 
 /// How many Clocks the part has answered as the rules do, and how many were not its own to answer.
-fn agreement_of(seen: &[Seen]) -> Vec<String> {
+fn agreement_of(counts: &Counts, pins: usize, beside: &[&str]) -> Vec<String> {
+    let named = match counts.named {
+        0 => "in a transaction that was under way".to_string(),
+        1 => "1 slave byte names it".to_string(),
+        named => format!("{named} slave bytes name it"),
+    };
     let mut lines = vec![format!(
-        "all agree: {} answers of the part, in {} events",
-        recording::count(seen, Giver::Part),
-        seen.len()
+        "all agree: {} answers of the part, in {} events; {named}",
+        counts.answers, counts.events
     )];
-    for (giver, words) in [
-        (Giver::Anybody, "outside any transfer"),
-        (Giver::Others, "not for the part"),
+    if pins > 0 {
+        lines.push(format!("the ACS pin agrees after {pins} events"));
+    }
+    if !beside.is_empty() {
+        lines.push(format!("also taken from wires: {}", beside.join(", ")));
+    }
+    for (count, words) in [
+        (counts.anybody, "outside any transfer"),
+        (counts.others, "not for the part"),
     ] {
-        match recording::count(seen, giver) {
-            0 => {}
-            count => lines.push(format!("not judged: {} {words}", recording::clocks(count))),
+        if count > 0 {
+            lines.push(format!("not judged: {} {words}", recording::clocks(count)));
         }
     }
     lines
@@ -323,17 +480,16 @@ fn agreement_of(seen: &[Seen]) -> Vec<String> {
 
 /// The event, its place, what differs, and what the rules say happened around it.
 fn tell_difference(
-    file: &[u8],
-    index: usize,
-    (recorded, right): (Answer, Answer),
+    window: &Window,
+    (index, recorded, right): Difference,
     picture: &mut Picture,
+    output: &mut Output,
 ) -> Outcome {
-    let Some(shown) = Shown::around(file, index) else {
+    let Some(shown) = Shown::around(window, index) else {
         return Ok(());
     };
     // First, so that a reader who goes away does not matter to it.
     picture.draw(&shown, index)?;
-    let mut output = picture.words();
     let name = format!("Event {index}");
     let words = place::event_words(shown.place.event);
     output.line(&format!("{name:<10} {words}"))?;
@@ -343,7 +499,7 @@ fn tell_difference(
     }
     output.line("")?;
     output.line("By the rules, around it:")?;
-    shown.play(&mut Transcript::new(&mut output))?;
+    shown.play(&mut Transcript::new(output))?;
     output.finish()
 }
 
@@ -389,18 +545,17 @@ struct Shown {
 }
 
 impl Shown {
-    fn around(file: &[u8], index: usize) -> Option<Shown> {
-        let capture = Capture::in_file(file)?;
-        let mut device = Device::from_parts(capture.image, capture.memory).ok()?;
-        let state = device.state();
-        let place = Place::of(capture.events, index, &state)?;
-        let from = begin_of(capture.events, index, &state, &place);
-        let to = end_of(capture.events, index);
-        device.run(&capture.events[..from]).ok()?;
-        let mut at = device.clone();
-        at.run(&capture.events[from..index]).ok()?;
-        let events = capture.events[from..to].to_vec();
-        let clocks = events[..index - from]
+    fn around(window: &Window, index: usize) -> Option<Shown> {
+        let place = window.place_of(index)?;
+        let from = begin_of(window, index, &place) - window.first;
+        let at = index - window.first;
+        let to = end_of(&window.events, at);
+        let mut device = window.device.clone();
+        device.run(&window.events[..from]).ok()?;
+        let mut before = device.clone();
+        before.run(&window.events[from..at]).ok()?;
+        let events = window.events[from..to].to_vec();
+        let clocks = events[..at - from]
             .iter()
             .filter(|event| (2..4).contains(*event));
         let clock = place.is_clock().then(|| clocks.count());
@@ -409,7 +564,7 @@ impl Shown {
             events,
             place,
             clock,
-            pin_before: at.pin(),
+            pin_before: before.pin(),
         })
     }
 
@@ -421,14 +576,16 @@ impl Shown {
 }
 
 /// Where to begin: with the transaction, or, where that is long ago, with a byte that is not.
-fn begin_of(events: &[u8], index: usize, state: &fm3130::State, place: &Place) -> usize {
-    if index - place.transaction_begin <= MOST_BEFORE {
+fn begin_of(window: &Window, index: usize, place: &Place) -> usize {
+    let is_near = index - place.transaction_begin <= MOST_BEFORE;
+    if is_near && place.transaction_begin >= window.first {
         return place.transaction_begin;
     }
-    (index - MOST_BEFORE..=index)
-        .filter_map(|at| Some((at, Place::of(events, at, state)?)))
+    let earliest = window.first.max(index.saturating_sub(MOST_BEFORE));
+    (earliest..=index)
+        .filter_map(|at| Some((at, window.place_of(at)?)))
         .find(|(at, place)| place.byte_begin == *at)
-        .map_or(place.byte_begin, |(at, _)| at)
+        .map_or(place.byte_begin.max(window.first), |(at, _)| at)
 }
 
 /// Where to end: with the next Stop, or not long after the event.

@@ -14,6 +14,7 @@ mod share;
 mod test;
 mod trim;
 mod view;
+mod waveform;
 
 use std::ffi::OsString;
 

@@ -6,21 +6,22 @@ use std::path::{Path, PathBuf};
 use crate::amount::{self, Amount, Tally};
 use crate::arguments::{wrong, Arguments};
 use crate::bus::{self, Grouping, Listener, Observer, Outputs, Player, Recorded};
-use crate::chip::State;
+use crate::chip::{Part, State};
 use crate::drawing::Drawing;
-use crate::expecting::{self, Holding};
+use crate::expecting::{self, Held, Holding};
 use crate::failure::Outcome;
 use crate::files::{self, Loaded, NamedFile, Replacement};
 use crate::output::{say_aside, Output};
-use crate::script::{Cast, Script};
+use crate::script::{Cast, Script, Step};
 use crate::source::{FileSource, PlanSource, Source};
 use crate::transcript::Transcript;
 use crate::typing::Typed;
-use crate::waveform::Waveform;
+use crate::waveform::{self, Waveform};
 
 /// Options that name files, with the script first.
-const FILES: [&str; 7] = [
+const FILES: [&str; 8] = [
     "--events",
+    "--from-vcd",
     "--image",
     "--memory",
     "--answers",
@@ -138,6 +139,14 @@ impl Feed {
         }
     }
 
+    /// Steps that come from no script.
+    pub fn of_steps(steps: Vec<Step>) -> Feed {
+        Feed::Whole(Some(Piece {
+            source: Box::new(PlanSource::new(steps)),
+            script: Script::default(),
+        }))
+    }
+
     /// How many events there are, as far as that is known.
     pub fn tally(&self) -> Tally {
         match self {
@@ -186,6 +195,33 @@ pub(super) fn open_asked(arguments: &Arguments, option: &str) -> Outcome<Option<
     path.map(|path| Replacement::open(&path)).transpose()
 }
 
+/// What the view beside a waveform is called where two files are one.
+const VIEW: &str = "the view of --vcd";
+
+/// The view beside the waveform that is asked for, as GTKWave opens it. A view that somebody else made stays.
+pub(super) fn view_beside(arguments: &Arguments) -> Outcome<Option<(&'static str, PathBuf)>> {
+    let Some(path) = arguments.path("--vcd") else {
+        return Ok(None);
+    };
+    let is_special = path.exists() && !path.is_file();
+    if files::is_output(&path) || is_special {
+        return Ok(None);
+    }
+    let view = path.with_extension("gtkw");
+    let is_ours = !view.exists() || files::begins_with(&view, waveform::VIEW_BEGIN)?;
+    Ok(is_ours.then_some((VIEW, view)))
+}
+
+/// The same as a file that is to be put in its place.
+pub(super) fn open_view(arguments: &Arguments, part: Part) -> Outcome<Option<Replacement>> {
+    let (Some((_, view)), Some(path)) = (view_beside(arguments)?, arguments.path("--vcd")) else {
+        return Ok(None);
+    };
+    let mut file = Replacement::open(&view)?;
+    file.write(waveform::view_of(&title_of(&path), part).as_bytes())?;
+    Ok(Some(file))
+}
+
 /// All who want to see a run.
 pub(super) struct Audience<'run> {
     /// Where the transcript is printed.
@@ -201,8 +237,8 @@ pub(super) struct Audience<'run> {
 }
 
 impl Audience<'_> {
-    /// Plays all that a feed gives, from a first state on. Expectations that are not met are a failure at the end; whoever
-    /// types is told at once, and goes on.
+    /// Plays all that a feed gives, from a first state on. Expectations that are not met are a failure at the end;
+    /// whoever types is told at once, and goes on.
     pub fn see(mut self, player: &mut dyn Player, first: &State, feed: &mut Feed) -> Outcome {
         let prints = self.output.is_some();
         let mut transcript = self.output.map(Transcript::new);
@@ -211,10 +247,8 @@ impl Audience<'_> {
         listeners.extend(self.drawing.as_mut().map(|one| one as &mut dyn Listener));
         let is_heard = !listeners.is_empty();
         let mut grouping = Grouping::new(listeners, first, None);
-        let mut waveform = match self.vcd {
-            Some(file) => Some(Waveform::begin(file, first)?),
-            None => None,
-        };
+        let waveform = self.vcd.map(|file| Waveform::begin(file, first));
+        let mut waveform = waveform.transpose()?;
         let (mut pin, mut outcome) = (first.pin(), Ok(()));
         while let Some(mut piece) = feed.next()? {
             let mut holding = Holding::new(&piece.script.plan.expectations, pin);
@@ -236,16 +270,21 @@ impl Audience<'_> {
             bus::play_some(player, &mut *piece.source, &mut outputs)?;
             let held = holding.into_held();
             pin = held.pin;
-            if feed.is_typed() {
-                grouping.pause()?;
-                let shown = expecting::shown_in(&held.unmet, &piece.script);
-                shown.iter().for_each(|words| say_aside(words));
-            } else {
-                outcome = held.into_outcome(&piece.script);
+            match feed {
+                Feed::Typed(_) => say_typed(&mut grouping, &held, &piece.script)?,
+                Feed::Whole(_) => outcome = held.into_outcome(&piece.script),
             }
         }
         grouping.finish()?;
         waveform.map_or(Ok(()), |mut one| one.finish())?;
         outcome
     }
+}
+
+/// Tells whoever types what a line did, and what of it did not come about.
+fn say_typed(grouping: &mut Grouping, held: &Held, script: &Script) -> Outcome {
+    grouping.pause()?;
+    let shown = expecting::shown_in(&held.unmet, script);
+    shown.iter().for_each(|words| say_aside(words));
+    Ok(())
 }

@@ -2,13 +2,16 @@
 //! `fm3130 run`: plays a script on a device.
 
 use std::ffi::OsString;
-use std::path::PathBuf;
+use std::path::{Path, PathBuf};
 
 use fm3130::capture::{self, Capture};
 use fm3130::Phase;
 
-use super::playing::{open_asked, takes_output, test_amounts, test_files, told, Audience, Feed};
-use super::run_set;
+use super::playing::{
+    open_asked, open_view, takes_output, test_amounts, test_files, title_of, told, view_beside,
+    Audience, Feed,
+};
+use super::{run_set, waveform};
 use crate::amount;
 use crate::arguments::{wrong, Arguments, Options};
 use crate::bus::Recorded;
@@ -30,6 +33,9 @@ const OPTIONS: Options = Options {
         "--svg",
         "--capture",
         "--events",
+        "--from-vcd",
+        "--scl",
+        "--sda",
         "--part",
     ],
     alone: &["--quiet", "--next-line", amount::OPTION],
@@ -44,21 +50,16 @@ pub fn command(words: Vec<OsString>) -> Outcome {
         return run_set::command(&arguments, script, &members);
     }
     let part = arguments.part()?;
-    test_files(&arguments, script.as_deref(), &[])?;
+    let view: Vec<_> = view_beside(&arguments)?.into_iter().collect();
+    test_files(&arguments, script.as_deref(), &view)?;
     test_capture(&arguments, part)?;
-    let (mut feed, title) = Feed::open(
-        script,
-        arguments.path("--events"),
-        Cast::One(part),
-        |path| FileSource::open(path, part),
-    )?;
-    test_amounts(&arguments, &feed)?;
+    waveform::test_names(&arguments)?;
     let is_quiet = arguments.has("--quiet");
     let mut output = Output::beside_file(takes_output(&arguments));
-    let mut device = load_device(&arguments, part, is_quiet, &mut output)?;
+    let (mut device, mut feed, title) = begin(&arguments, script, part, &mut output)?;
     test_length(&arguments, &feed)?;
     let begin = device.clone();
-    let mut targets = Targets::open(&arguments)?;
+    let mut targets = Targets::open(&arguments, part)?;
     if !is_quiet {
         say_where_it_begins(&device, &mut output)?;
     }
@@ -67,6 +68,49 @@ pub fn command(words: Vec<OsString>) -> Outcome {
     say_how_it_ends(&arguments, &device, &mut output)?;
     output.finish()?;
     targets.commit(&begin, &device)
+}
+
+/// The device, what is played on it, and the name of that. A waveform is read by where the device stands, so there
+/// the device comes first; of a script what is wrong is found first.
+fn begin(
+    arguments: &Arguments,
+    script: Option<PathBuf>,
+    part: Part,
+    output: &mut Output,
+) -> Outcome<(Chip, Feed, String)> {
+    let is_quiet = arguments.has("--quiet");
+    if let Some(path) = arguments.path("--from-vcd") {
+        let device = load_device(arguments, part, is_quiet, output)?;
+        let (feed, title) = recorded_feed(arguments, script, &path, &device)?;
+        test_amounts(arguments, &feed)?;
+        return Ok((device, feed, title));
+    }
+    let events = arguments.path("--events");
+    let open = |path: &Path| FileSource::open(path, part);
+    let (feed, title) = Feed::open(script, events, Cast::One(part), open)?;
+    test_amounts(arguments, &feed)?;
+    let device = load_device(arguments, part, is_quiet, output)?;
+    Ok((device, feed, title))
+}
+
+/// The events of a waveform, which is of an FM3130, and the waveform's name.
+fn recorded_feed(
+    arguments: &Arguments,
+    script: Option<PathBuf>,
+    path: &Path,
+    device: &Chip,
+) -> Outcome<(Feed, String)> {
+    if script.is_some() || arguments.path("--events").is_some() {
+        return Err(wrong(
+            "run takes a SCRIPT, --events or --from-vcd, one of them",
+        ));
+    }
+    let Chip::Fm3130(device) = device else {
+        return Err(wrong("--from-vcd is for the FM3130 alone"));
+    };
+    let names = waveform::wire_names(arguments);
+    let steps = waveform::steps_of(path, &names, &device.state())?;
+    Ok((Feed::of_steps(steps), title_of(path)))
 }
 
 /// Refuses a capture of a part that captures know nothing of.
@@ -97,7 +141,7 @@ fn too_long(total: u64) -> Failure {
 }
 
 /// The device that the files hold, or a fresh one where there are none.
-fn load_device(
+pub(super) fn load_device(
     arguments: &Arguments,
     part: Part,
     is_quiet: bool,
@@ -171,6 +215,8 @@ struct Targets {
     memory: Option<Replacement>,
     answers: Option<Replacement>,
     vcd: Option<Replacement>,
+    /// Beside the waveform.
+    view: Option<Replacement>,
     svg: Option<Replacement>,
     capture: Option<Replacement>,
     /// What goes into the capture.
@@ -178,13 +224,14 @@ struct Targets {
 }
 
 impl Targets {
-    fn open(arguments: &Arguments) -> Outcome<Targets> {
+    fn open(arguments: &Arguments, part: Part) -> Outcome<Targets> {
         let open = |option| open_asked(arguments, option);
         Ok(Targets {
             image: open("--image")?,
             memory: open("--memory")?,
             answers: open("--answers")?,
             vcd: open("--vcd")?,
+            view: open_view(arguments, part)?,
             svg: open("--svg")?,
             capture: open("--capture")?,
             recorded: Recorded::default(),
@@ -208,6 +255,7 @@ impl Targets {
             self.memory,
             self.answers,
             self.vcd,
+            self.view,
             self.svg,
             self.capture,
         ];

@@ -6,9 +6,12 @@ use std::path::{Path, PathBuf};
 use fm3130::family::{Member, Select, Set, Size};
 use fm3130::IMAGE_BYTES;
 
-use super::playing::{open_asked, takes_output, test_amounts, test_files, told, Audience, Feed};
+use super::playing::{
+    open_asked, open_view, takes_output, test_amounts, test_files, told, view_beside, Audience,
+    Feed,
+};
 use crate::arguments::{wrong, Arguments};
-use crate::chip::State;
+use crate::chip::{Part, State};
 use crate::drawing::Drawing;
 use crate::failure::{Failure, Outcome};
 use crate::files::{self, Replacement};
@@ -18,7 +21,7 @@ use crate::source::FileSource;
 use crate::words;
 
 /// Options that are for one device: with a file, and alone.
-const OF_ONE: [&str; 2] = ["--capture", "--next-line"];
+const OF_ONE: [&str; 3] = ["--capture", "--next-line", "--from-vcd"];
 
 /// Plays a script or an event file on devices of these sizes and select bits.
 pub fn command(
@@ -27,7 +30,9 @@ pub fn command(
     members: &[(Size, Select)],
 ) -> Outcome {
     test_options(arguments)?;
-    test_files(arguments, script.as_deref(), &plans_of(arguments))?;
+    let mut beside = plans_of(arguments);
+    beside.extend(view_beside(arguments)?);
+    test_files(arguments, script.as_deref(), &beside)?;
     let is_quiet = arguments.has("--quiet");
     let mut output = Output::beside_file(takes_output(arguments));
     test_members(members)?;
@@ -40,7 +45,7 @@ pub fn command(
     )?;
     test_amounts(arguments, &feed)?;
     let mut set = load_set(arguments, members, is_quiet, &mut output)?;
-    let mut targets = Targets::open(arguments, title)?;
+    let mut targets = Targets::open(arguments, members, title)?;
     let printed = (!is_quiet).then_some(&mut output);
     play_to(&mut set, &mut feed, &mut targets, printed)?;
     if !is_quiet {
@@ -57,7 +62,7 @@ const WITH_PLAN: [(&str, &str); 2] = [
 ];
 
 /// The plans beside the files of a set, with what they are called.
-fn plans_of(arguments: &Arguments) -> Vec<(&'static str, PathBuf)> {
+pub(super) fn plans_of(arguments: &Arguments) -> Vec<(&'static str, PathBuf)> {
     let named = WITH_PLAN.into_iter();
     let beside = |(option, name)| Some((name, files::plan_beside(&arguments.path(option)?)));
     named.filter_map(beside).collect()
@@ -83,7 +88,7 @@ fn fresh(members: &[(Size, Select)]) -> Vec<Member> {
 }
 
 /// Refuses a set that cannot be made even of fresh devices.
-fn test_members(members: &[(Size, Select)]) -> Outcome {
+pub(super) fn test_members(members: &[(Size, Select)]) -> Outcome {
     match Set::new(fresh(members)) {
         Ok(_) => Ok(()),
         Err(refusal) => Err(wrong(format!("no set: {refusal}"))),
@@ -91,7 +96,7 @@ fn test_members(members: &[(Size, Select)]) -> Outcome {
 }
 
 /// The set that the files hold, with fresh devices where there are none.
-fn load_set(
+pub(super) fn load_set(
     arguments: &Arguments,
     members: &[(Size, Select)],
     is_quiet: bool,
@@ -137,7 +142,11 @@ fn refused_in(path: &Path, words: &str) -> String {
 }
 
 /// A set of images and memories that stand one after the other; or why there is none.
-fn made_of(members: &[(Size, Select)], images: &[u8], memories: &[u8]) -> Result<Set, String> {
+pub(super) fn made_of(
+    members: &[(Size, Select)],
+    images: &[u8],
+    memories: &[u8],
+) -> Result<Set, String> {
     let (mut devices, mut rest) = (Vec::new(), memories);
     for ((size, select), image) in members.iter().zip(images.chunks(IMAGE_BYTES)) {
         let (memory, others) = rest.split_at(size.bytes());
@@ -149,12 +158,12 @@ fn made_of(members: &[(Size, Select)], images: &[u8], memories: &[u8]) -> Result
 }
 
 /// The images of devices, one after the other.
-fn all_images(members: &[Member]) -> Vec<u8> {
+pub(super) fn all_images(members: &[Member]) -> Vec<u8> {
     members.iter().flat_map(|one| *one.image()).collect()
 }
 
 /// The memories of devices, one after the other.
-fn all_memories(members: &[Member]) -> Vec<u8> {
+pub(super) fn all_memories(members: &[Member]) -> Vec<u8> {
     let memories = members.iter().map(Member::memory);
     memories.collect::<Vec<_>>().concat()
 }
@@ -167,13 +176,15 @@ struct Targets {
     plans: Vec<Replacement>,
     answers: Option<Replacement>,
     vcd: Option<Replacement>,
+    /// Beside the waveform.
+    view: Option<Replacement>,
     svg: Option<Replacement>,
     /// The drawing's title.
     title: String,
 }
 
 impl Targets {
-    fn open(arguments: &Arguments, title: String) -> Outcome<Targets> {
+    fn open(arguments: &Arguments, members: &[(Size, Select)], title: String) -> Outcome<Targets> {
         let open = |option| open_asked(arguments, option);
         let plans = plans_of(arguments).into_iter();
         Ok(Targets {
@@ -184,6 +195,7 @@ impl Targets {
                 .collect::<Outcome<_>>()?,
             answers: open("--answers")?,
             vcd: open("--vcd")?,
+            view: open_view(arguments, Part::Family(members[0].0))?,
             svg: open("--svg")?,
             title,
         })
@@ -200,7 +212,14 @@ impl Targets {
         for file in &mut self.plans {
             file.write(plan_of(set).as_bytes())?;
         }
-        let named = [self.images, self.memories, self.answers, self.vcd, self.svg];
+        let named = [
+            self.images,
+            self.memories,
+            self.answers,
+            self.vcd,
+            self.view,
+            self.svg,
+        ];
         let all = named.into_iter().flatten().chain(self.plans);
         files::commit_all(all.collect())
     }

@@ -34,6 +34,11 @@ pub fn read_at_most(path: &Path, most: usize) -> Outcome<Vec<u8>> {
     Ok(bytes)
 }
 
+/// Whether a file begins with a text.
+pub fn begins_with(path: &Path, text: &str) -> Outcome<bool> {
+    Ok(read_at_most(path, text.len())?.starts_with(text.as_bytes()))
+}
+
 /// Whether a path stands for standard input.
 pub fn is_input(path: &Path) -> bool {
     path == Path::new("-")

@@ -43,8 +43,8 @@ impl Write for Sink {
 }
 
 impl Replacement {
-    /// Opens a replacement of a file, which need not be there; `-` is standard output. A place that cannot be written is
-    /// found here, before any work.
+    /// Opens a replacement of a file, which need not be there; `-` is standard output. A place that cannot be
+    /// written is found here, before any work.
     pub fn open(path: &Path) -> Outcome<Replacement> {
         if is_output(path) {
             return Ok(Replacement::direct(path, Sink::Output(io::stdout())));
