@@ -47,7 +47,7 @@ SECONDS := 200
 
 .PHONY: help test tests check demo lib library archives dist dist-check install command host ctest python python-test \
 	second compare quotations edits all-edits twins few-twins web web-test controller bench counts fuzz fmt fmt-check setup \
-	setup-library clean uninstall
+	setup-library clean uninstall sigrok-test
 
 help: ## list these targets
 	@awk -F':.*## ' '/^[a-z-]+:.*## / { printf "make %-11s %s\n", $$1, $$2 }' Makefile
@@ -147,6 +147,11 @@ python-test: library ## the tests of the package for Python, its examples and th
 	@tools/setup.sh python
 	@cd python && FM3130_LIBRARY="$(CURDIR)/build/lib/libfm3130.so" PYTHONPATH="$(CURDIR)/python" \
 		../$(PATIENT) 'being tested' $(PYTHON) -m pytest --quiet
+
+# Also part of the test, which passes it over where sigrok-cli is not installed.
+sigrok-test: library ## waveforms in sigrok-cli, with its own decoder for I2C and with ours, sigrok/fm3130
+	@tools/setup.sh sigrok
+	@$(CARGO_TEST) --package fm3130-cli --test sigrok
 
 second: ## the tests of the second program, which is written apart from the crates
 	@$(CARGO_TEST) --package second

@@ -1,9 +1,10 @@
 #!/bin/sh
 # SPDX-License-Identifier: Apache-2.0
-# setup.sh [bench|command|controller|fuzz|library|python|web]: sees that all that `make test` needs is on this Debian machine,
-# and installs what is missing. With a word: what the library of dist/ (library) and the command need, the measurements, the
-# emulated controllers, the fuzzer, the tests of the package for Python, or those of the page in a browser (web). It says nothing
-# and needs no network where all is there. The Rattle kit itself is in no package: what needs `rt` stops without it.
+# setup.sh [bench|command|controller|fuzz|library|python|sigrok|web]: sees that all that `make test` needs is on this Debian
+# machine, and installs what is missing. With a word: what the library of dist/ (library) and the command need, the measurements,
+# the emulated controllers, the fuzzer, the tests of the package for Python, those in sigrok-cli, or those of the page in a browser
+# (web). It says nothing and needs no network where all is there. The Rattle kit itself is in no package: what needs `rt` stops
+# without it.
 set -eu
 
 fail() { printf 'setup: %s\n' "$*" >&2; exit 1; }
@@ -73,13 +74,14 @@ fuzz)
     need clang clang
     need_fuzzer libclang-rt-14-dev # of Debian 12's clang
     ;;
+sigrok) need sigrok-cli sigrok-cli ;;
 web)
     need node nodejs
     need chromium chromium
     need chromedriver chromium-driver
     need_python selenium python3-selenium
     ;;
-*) fail "usage: setup.sh [bench|command|controller|fuzz|library|python|web]" ;;
+*) fail "usage: setup.sh [bench|command|controller|fuzz|library|python|sigrok|web]" ;;
 esac
 
 [ -n "$missing" ] || exit 0
