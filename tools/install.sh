@@ -24,6 +24,7 @@ list() {
     echo 755 build/lib/libfm3130.so "lib/libfm3130.so.$version"
     echo link "libfm3130.so.$version" "lib/libfm3130.so.${version%%.*}"
     echo link "libfm3130.so.${version%%.*}" lib/libfm3130.so
+    echo 755 build/lib/libfm3130-bus.so lib/libfm3130-bus.so
     echo 644 "$made/fm3130.pc" lib/pkgconfig/fm3130.pc
     (cd "$made" && find man -type f) | LC_ALL=C sort | sed "s|.*|644 $made/& share/&|"
     echo 644 "$made/bash" share/bash-completion/completions/fm3130

@@ -5,6 +5,7 @@
 #   build/lib/MACHINE/libfm3130.a   for x86_64 and aarch64
 #   build/lib/libfm3130.a           the one for this machine
 #   build/lib/libfm3130.so          the same as a shared library, linked by CC or cc
+#   build/lib/libfm3130-bus.so      what `fm3130 bus` loads into a program, linked likewise
 #   build/lib/fm3130.pc             for pkg-config
 #
 # What would stay the same byte for byte is left alone, so that nothing is linked anew. Where there is no library of the crates as
@@ -39,4 +40,5 @@ for machine in x86_64 aarch64; do
     fi
 done
 tools/shared-library.sh build/lib/libfm3130.a "$version" "${CC:-cc}"
+tools/bus-library.sh build/lib/libfm3130.a "${CC:-cc}"
 tools/pkg-config.sh "\${pcfiledir}/../../include" "\${pcfiledir}" >build/lib/fm3130.pc

@@ -61,6 +61,8 @@ case ${1:-} in
         need_static_libc x86_64-linux-gnu-gcc libc6-dev-amd64-cross
     fi
     need_pytest
+    need /usr/sbin/i2cdetect i2c-tools # to see that they run on `fm3130 bus`
+    need_python smbus python3-smbus
     ;;
 library | command) ;;
 python) need_pytest ;;

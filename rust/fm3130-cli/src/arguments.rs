@@ -110,7 +110,7 @@ impl Arguments {
             [] => Ok(Part::Fm3130),
             [word] => part_of(word),
             _ => Err(wrong(
-                "--part is given twice; several parts are a set, which run, test and events alone know",
+                "--part is given twice; several parts are a set, which run, test, events and bus alone know",
             )),
         }
     }
@@ -146,7 +146,7 @@ pub fn part_of(word: &OsStr) -> Outcome<Part> {
     let word = word.to_string_lossy();
     if is_of_a_set {
         return Err(wrong(format!(
-            "{word} has select bits: it is for a set, which run, test and events alone know"
+            "{word} has select bits: it is for a set, which run, test, events and bus alone know"
         )));
     }
     Part::of_word(&word).ok_or_else(|| {

@@ -1,9 +1,9 @@
 // SPDX-License-Identifier: Apache-2.0
 //! Files that are to go when the command is interrupted: Control-C, or whoever ends it kindly.
 //!
-//! The standard library knows no signals, so this is the one module of the command with code that the compiler does not
-//! check. A handler may do little: it calls `unlink` on names that were made ready before, and lets the signal do what it
-//! does by itself.
+//! The standard library knows no signals, so this is the one module of the command with code that the compiler does
+//! not check. A handler may do little: it calls `unlink` on names that were made ready before, and lets the signal
+//! do what it does by itself.
 
 use std::ffi::{c_char, c_int, CString};
 use std::os::unix::ffi::OsStrExt;
@@ -16,7 +16,8 @@ use std::sync::Once;
 const MOST_FILES: usize = 16;
 
 /// SIGHUP, SIGINT and SIGTERM, and what a signal does by itself.
-const SIGNALS: [c_int; 3] = [1, 2, 15];
+const SIGNALS: [c_int; 3] = [1, INTERRUPT, 15];
+const INTERRUPT: c_int = 2;
 const BY_ITSELF: usize = 0;
 /// SIG_IGN: whoever started the command wants it to go on, as `nohup` does.
 const IGNORED: usize = 1;
@@ -63,6 +64,12 @@ impl Drop for Passing {
     }
 }
 
+/// Leaves Control-C to a program that runs below this one, from now on.
+pub fn ignore() {
+    // SAFETY: `signal` is the C library's.
+    unsafe { signal(INTERRUPT, IGNORED) };
+}
+
 /// Puts a name into a free place.
 fn keep(name: *mut c_char) -> Option<usize> {
     let order = Ordering::SeqCst;
@@ -75,7 +82,8 @@ fn keep(name: *mut c_char) -> Option<usize> {
 /// Has the handler called, but for a signal that is ignored.
 fn listen() {
     for number in SIGNALS {
-        // SAFETY: `signal` is the C library's, `remove_all` has the form of a handler and does only what a handler may.
+        // SAFETY: `signal` is the C library's, `remove_all` has the form of a handler and does only what a handler
+        // may.
         unsafe {
             if signal(number, remove_all as *const () as usize) == IGNORED {
                 signal(number, IGNORED);

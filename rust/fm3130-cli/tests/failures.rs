@@ -76,7 +76,7 @@ fn wrong_command_lines() {
         ),
         (
             &["lamps", "good.bus", "--part", "fm31256"],
-            "lamps is for the FM3130 alone, and knows no FM31256; run, test, events, view and fresh do",
+            "lamps is for the FM3130 alone, and knows no FM31256; run, test, events, bus, view and fresh do",
         ),
         (
             &["mend", "--part=fm3164", "--image", "image"],

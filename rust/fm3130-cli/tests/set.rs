@@ -511,7 +511,7 @@ fn what_knows_no_sets_says_so() {
         let (code, errors) = failed(&folder, &words, "");
         assert_eq!(code, 2);
         let message =
-            "fm3164@1 has select bits: it is for a set, which run, test and events alone know";
+            "fm3164@1 has select bits: it is for a set, which run, test, events and bus alone know";
         assert!(errors.contains(message), "{words:?}: {errors}");
     }
     let words = ["fresh", "--part", "fm3164", "--part", "fm3164"];

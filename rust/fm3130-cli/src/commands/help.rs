@@ -9,12 +9,13 @@ use crate::nearest::nearest;
 use crate::output::Output;
 
 /// The pages by name. The first line of each file is its licence and is not shown.
-const PAGES: [(&str, &str); 13] = [
+const PAGES: [(&str, &str); 14] = [
     ("help", include_str!("../help/help.txt")),
     ("run", include_str!("../help/run.txt")),
     ("test", include_str!("../help/test.txt")),
     ("share", include_str!("../help/share.txt")),
     ("events", include_str!("../help/events.txt")),
+    ("bus", include_str!("../help/bus.txt")),
     ("view", include_str!("../help/view.txt")),
     ("fresh", include_str!("../help/fresh.txt")),
     ("judge", include_str!("../help/judge.txt")),

@@ -1,6 +1,7 @@
 // SPDX-License-Identifier: Apache-2.0
 //! The commands.
 
+mod bus;
 mod events;
 mod fresh;
 mod help;
@@ -29,11 +30,12 @@ const OF_THE_FM3130: [&str; 5] = ["share", "judge", "lamps", "mend", "trim"];
 type Command = fn(Vec<OsString>) -> Outcome;
 
 /// The commands by name.
-const COMMANDS: [(&str, Command); 12] = [
+const COMMANDS: [(&str, Command); 13] = [
     ("run", run::command),
     ("test", test::command),
     ("share", share::command),
     ("events", events::command),
+    ("bus", bus::command),
     ("view", view::command),
     ("fresh", fresh::command),
     ("judge", judge::command),
@@ -98,7 +100,7 @@ fn leave_part_out(command: &str, words: &mut Vec<OsString>) -> Outcome {
     match part_of(&chosen)? {
         Part::Fm3130 => Ok(()),
         part => Err(wrong(format!(
-            "{command} is for the FM3130 alone, and knows no {part}; run, test, events, view and fresh do"
+            "{command} is for the FM3130 alone, and knows no {part}; run, test, events, bus, view and fresh do"
         ))),
     }
 }
