@@ -2,16 +2,16 @@
 -- A device that pulls the line low goes on in the same way whatever the master does at that clock; where another one does, it is idle,
 -- and a Clock leaves it as it was.
 -- Assumes nothing.
-use Prim.Native.Nat.{ℕ, _≤_, _<_}
+use Prim.Native.Nat.{ℕ}
 use mathlib.Core.Path.{_≡_, refl, sym, ap, subst, _∙_}
-use mathlib.Core.Bool.{Bool, true, false, cond, _&&_, false≢true}
+use mathlib.Core.Bool.{Bool, true, false, false≢true}
 use mathlib.Core.List.{List}
 use native.Mathlib.Omega.{arith}
 use lib.Dec.{eqb, ltb}
-use borrow.Author.Tests.{eqb-true, eqb-false, ltb-true, ltb-false, lt-ltb}
+use borrow.Author.Tests.{eqb-false, ltb-true, ltb-false, lt-ltb}
 use Rattle.weights.proofs.Cases.{by-cond}
 use Rattle.wire.proofs.Tests.{by-test}
-use Rattle.wire.specs.Bits.{Place as Clocks, first as initial, within, last, ack, placeAt, sentBit}
+use Rattle.wire.specs.Bits.{Place as Clocks, first as initial, within, last, ack, placeAt}
 use Rattle.wire.specs.Clock.{Half, Receiver, receivedAt, Sender, sentAt}
 use Rattle.wire.specs.Memory.{Cells, lent}
 use Rattle.wire.specs.Machine.{Parts, Out, clock, lined, clocked}
@@ -20,21 +20,19 @@ use Rattle.wire.specs.declared.Phase.{Phase}
 use Rattle.wire.specs.declared.Phase.the-variants.{Idle, Slave, AddressHigh, AddressLow, Pointer, Write, Read}
 use Rattle.bus.specs.Select.{slaveNamesFor}
 use Rattle.bus.specs.Desk.{partOf}
-use Rattle.bus.specs.Happening.{onWire, happening, edges}
+use Rattle.bus.specs.Happening.{onWire, happening}
 use Rattle.bus.specs.Event.{eventOn}
 use Rattle.bus.specs.declared.Bus.{Bus}
 use Rattle.bus.specs.declared.Power.{Power}
 use Rattle.bus.specs.declared.Power.the-variants.{On, Backup, Off}
 use Rattle.counters.specs.declared.Counters.{Counters}
 use Rattle.family.specs.Chip.{companion31, Done}
-use Rattle.family.specs.Step.{stateOf}
-use Rattle.parts.specs.Events.{clockEvent}
 use Rattle.wired.proofs.Pulls.{Clear, this-idle, that-idle, both-called}
 use Rattle.set31.specs.Set.{Held, Together, Place, first, second, third, fourth, numberOf, at, hears, ownByte, sizeIn, selectIn}
-use Rattle.set31.specs.Set.{held, doneIn, afterOwn, lineAt, afterEvent, lineTo}
+use Rattle.set31.specs.Set.{doneIn, afterOwn, lineAt, lineTo}
 use Rattle.set31.proofs.Facts.{of-four}
 use Rattle.set31.proofs.Ears.{heard-here}
-use Rattle.law_set.proofs.Heard.{hears-all, hears-all-events, line-is-low}
+use Rattle.law_set.proofs.Heard.{hears-all-events, line-is-low}
 use Rattle.ensemble.specs.Alone.{countersIn}
 use Rattle.ensemble.specs.Transaction.{samePlace, Here, Unlike}
 use Rattle.ensemble.specs.Stand.{busIn, Stands}

@@ -4,15 +4,12 @@
 -- Assumes nothing.
 use Prim.Native.Nat.{ℕ, _<_}
 use mathlib.Core.Path.{_≡_, refl, sym, ap, subst, _∙_}
-use mathlib.Core.Bool.{true, false}
+use mathlib.Core.Bool.{true}
 use mathlib.Core.List.{List}
 use lib.Dec.{ltb}
 use lib.ListN.{length}
 use borrow.Author.Tests.{ltb-true}
-use Rattle.wire.specs.Machine.{Line}
-use Rattle.numbers.specs.Numbers.{accepted}
-use Rattle.merging.specs.Merge.{between}
-use Rattle.set31.specs.Set.{Held, Together, Place, first, second, third, fourth, numberOf, at, sizeIn, selectIn, afterEvents}
+use Rattle.set31.specs.Set.{Held, Together, Place, first, second, third, fourth, numberOf, at, sizeIn, selectIn}
 use Rattle.set31.specs.Outcome.{lentTo}
 use Rattle.image31.specs.Image.{imageOf}
 use Rattle.image31.proofs.Images.{image-decode}
@@ -22,10 +19,10 @@ use Rattle.law_set.specs.Order.{part}
 use Rattle.law_set.proofs.Order.{read-in-order, written-in-order}
 use Rattle.run31set.specs.Run.{runOf}
 use Rattle.run31set.proofs.Runs.{run-together}
-use Rattle.rig31set.specs.Entry.{Outcome, written, runOutcome}
+use Rattle.rig31set.specs.Entry.{Outcome, written}
 use Rattle.rig31set.proofs.Entries.{passed}
-use Rattle.ensemble.specs.Transaction.{lineBytes, WholeLines, NamesIt, samePlace, Here, Between}
-use Rattle.ensemble.specs.Others.{memoryOf, Untouched, OthersUntouched}
+use Rattle.ensemble.specs.Transaction.{lineBytes}
+use Rattle.ensemble.specs.Others.{memoryOf, OthersUntouched}
 use Rattle.ensemble.proofs.Transaction.{transaction-leaves}
 use Rattle.ensemble.proofs.Stand.{run-stands}
 use Rattle.ensemble.proofs.Calls.{counted, outcome-number, outcome-done, known-of}

@@ -4,7 +4,7 @@
 -- Assumes nothing.
 use Prim.Native.Nat.{ℕ, zero, suc, _+_, _*_, _≤_, _<_}
 use mathlib.Core.Path.{_≡_, refl, sym, ap, subst, _∙_}
-use mathlib.Core.Bool.{Bool, true, false, cond, _&&_, and-assoc}
+use mathlib.Core.Bool.{true, _&&_, and-assoc}
 use mathlib.Core.List.{List, [], _∷_, _++_, append-assoc, append-nil}
 use native.Mathlib.Omega.{arith}
 use lib.Dec.{leb, ltb}
@@ -13,24 +13,23 @@ use lib.Seq.{take-all, take-add, drop-append-add, drop-length}
 use borrow.Author.Tests.{lt-ltb, leb-true}
 use Rattle.weights.proofs.Cases.{Below, none, _then_, below}
 use Rattle.wire.proofs.Tests.{and-split, and-join}
-use Rattle.numbers.specs.Numbers.{accepted, wrongMemory, wrongState, wrongCount, unknownEvent}
+use Rattle.numbers.specs.Numbers.{accepted}
 use Rattle.family.specs.Step.{answerByte}
-use Rattle.family.specs.declared.State.{State}
-use Rattle.set31.specs.Set.{Together, Place, first, second, third, fourth, numberOf, lineTo, afterEvent, afterEvents}
-use Rattle.set31.specs.Make.{isLent, placesAre, isCount, countFits}
-use Rattle.set31.specs.Outcome.{lentTo, SetFit}
+use Rattle.set31.specs.Set.{Together, Place, first, second, third, fourth, numberOf, lineTo, afterEvent}
+use Rattle.set31.specs.Make.{isCount, countFits}
+use Rattle.set31.specs.Outcome.{lentTo}
 use Rattle.set31.specs.declared.Set.{Set}
 use Rattle.image31.specs.Image.{imageSize}
 use Rattle.image31set.specs.Read.{countOf, imageAt, readingOf}
 use Rattle.image31set.specs.Write.{imagesOf}
 use Rattle.image31set.specs.declared.Reading.{Reading}
 use Rattle.image31set.proofs.Readings.{reading-length, reading-within}
-use Rattle.law_set.proofs.Written.{stateAt, images-long, image-of}
-use Rattle.run31set.specs.Run.{Ended, following, runOf, answersOver, allKnown}
+use Rattle.law_set.proofs.Written.{images-long, image-of}
+use Rattle.run31set.specs.Run.{Ended, following, runOf, allKnown}
 use Rattle.run31set.proofs.Runs.{run-together}
 use Rattle.rig31set.specs.Entry.{runNumber, Outcome, written, runOutcome}
 use Rattle.rig31set.proofs.Entries.{run-accepted, Passed, passed}
-use Rattle.ensemble.specs.Pieces.{ReadsBack, nextCall, joined, CallsAsOne, Cut, OneAsCalls}
+use Rattle.ensemble.specs.Pieces.{ReadsBack, nextCall, joined, CallsAsOne, OneAsCalls}
 use Rattle.ensemble.proofs.Stand.{count-kept}
 use Rattle.ensemble.proofs.Again.{reading-again}
 use Rattle.ensemble.proofs.Calls.{counted, outcome-number, outcome-done, known-of, runs-again}

@@ -2,21 +2,19 @@
 -- Each device of a set does as alone, and alone it is a part: so the laws of `parts` are those of each device. On the shared line: of
 -- the devices only the one that writes is in a transfer, and without a Start the others stay idle, so the line is its.
 -- Assumes nothing.
-use Prim.Native.Nat.{ℕ, _+_, _%_, _≤_, _<_}
+use Prim.Native.Nat.{ℕ, _+_, _<_}
 use mathlib.Core.Path.{_≡_, refl, sym, ap, subst, _∙_}
-use mathlib.Core.Bool.{Bool, true, false, cond, _&&_, false≢true}
+use mathlib.Core.Bool.{Bool, true, false, false≢true}
 use mathlib.Core.List.{List, [], _∷_, _++_}
 use native.Mathlib.Omega.{arith}
 use lib.Dec.{eqb, ltb}
 use lib.ListN.{length, getD}
-use borrow.Author.Tests.{ne-eqb, eqb-true, ltb-true, ltb-false}
+use borrow.Author.Tests.{ne-eqb, eqb-true, ltb-true}
 use Rattle.weights.proofs.Cases.{by-cond}
-use Rattle.wire.proofs.Tests.{by-test, and-split}
-use Rattle.wire.specs.Machine.{Line, start, stop, clock, lined, clocked}
-use Rattle.wire.specs.declared.Side.the-variants.{Memory}
+use Rattle.wire.proofs.Tests.{and-split}
+use Rattle.wire.specs.Machine.{start, stop, clock, lined, clocked}
 use Rattle.wire.specs.declared.Phase.{Phase}
 use Rattle.wire.specs.declared.Phase.the-variants.{Idle, Slave, AddressHigh, AddressLow, Pointer, Write, Read}
-use Rattle.counters.specs.Part.{guardOf}
 use Rattle.counters.specs.declared.Counters.{Counters}
 use Rattle.bus.specs.Select.{slaveNamesFor}
 use Rattle.bus.specs.Happening.{Happening, onWire, beat, lost, gone, returned, happening, edges}
@@ -29,7 +27,7 @@ use Rattle.family.proofs.Entry.{limits-of}
 use Rattle.merging.specs.Merge.{keepIf}
 use Rattle.parts.specs.Events.{clockEvent}
 use Rattle.parts.specs.Events as parts
-use Rattle.parts.specs.Stored.{Byte, AtData, StoredAt}
+use Rattle.parts.specs.Stored.{AtData, StoredAt}
 use Rattle.parts.proofs.Events.{edge-heard}
 use Rattle.parts.proofs.Stored as stored
 use Rattle.parts.proofs.Protected as kept

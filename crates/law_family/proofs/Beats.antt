@@ -1,9 +1,9 @@
 -- SPDX-License-Identifier: Apache-2.0
 -- Ticks and edges with a supply change the companion alone, and of it the counters; the answer to each is 1.
 -- Assumes nothing.
-use Prim.Native.Nat.{ℕ, suc}
-use mathlib.Core.Path.{_≡_, refl, sym, ap, _∙_}
-use mathlib.Core.Bool.{Bool, true, false}
+use Prim.Native.Nat.{ℕ}
+use mathlib.Core.Path.{_≡_, refl, ap, _∙_}
+use mathlib.Core.Bool.{Bool}
 use mathlib.Core.List.{List, [], _∷_}
 use lib.ListN.{length, replicate}
 use Rattle.weights.specs.Weight.{has}
@@ -13,17 +13,15 @@ use Rattle.bus.specs.declared.Beat.{Beat}
 use Rattle.bus.specs.declared.Beat.the-variants.{Second, Cnt1, Cnt2}
 use Rattle.bus.specs.declared.Power.{Power}
 use Rattle.bus.specs.declared.Power.the-variants.{On, Backup, Off}
-use Rattle.bus.specs.declared.Bus.{Bus}
 use Rattle.counters.specs.Change.{withCounts, withRegisters}
 use Rattle.counters.specs.Edge.{edged, edgeOf}
 use Rattle.counters.specs.declared.Counts.{Counts}
 use Rattle.counters.specs.declared.Counters.{Counters}
 use Rattle.counters.specs.declared.Input.the-variants as input
-use Rattle.family.specs.Chip.{beaten, eventOf}
-use Rattle.family.specs.Step.{stateOf}
+use Rattle.family.specs.Chip.{beaten}
 use Rattle.family.specs.Run.{Ended, runOf}
 use Rattle.family.specs.declared.State.{State}
-use Rattle.law_family.specs.Beats.{beatEvent, beatEvents}
+use Rattle.law_family.specs.Beats.{beatEvents}
 
 -- so many of them, one after another
 abbrev pub beatenBy : List Beat → Counters → Counters

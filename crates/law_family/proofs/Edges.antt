@@ -2,7 +2,7 @@
 -- Any number of edges, as sums: each is one more, and a sum that rolls over at each step is the sum that rolls over once.
 -- Assumes nothing.
 use Prim.Native.Nat.{ℕ, suc, _+_, _*_, _/_, _%_, _<_}
-use mathlib.Core.Path.{_≡_, refl, sym, ap, _∙_}
+use mathlib.Core.Path.{_≡_, ap, _∙_}
 use mathlib.Core.Bool.{Bool, true, false}
 use mathlib.Core.List.{List, [], _∷_}
 use native.Mathlib.Nat.{div-div-eq-div-mul}
@@ -17,7 +17,7 @@ use Rattle.counters.specs.Edge.{pairOf, countOf, countsOf, nextCount, nextPair}
 use Rattle.counters.specs.declared.Count.{Count}
 use Rattle.counters.specs.declared.Counts.{Counts}
 use Rattle.counters.specs.declared.Counters.{Counters}
-use Rattle.family.specs.Run.{Ended, runOf}
+use Rattle.family.specs.Run.{runOf}
 use Rattle.family.specs.declared.State.{State}
 use Rattle.law_family.specs.Seen.{Seen, seen, countList}
 use Rattle.law_family.specs.Beats.{beatEvents, ones, twos}

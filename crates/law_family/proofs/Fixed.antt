@@ -4,15 +4,15 @@
 -- Assumes nothing.
 use Prim.Native.Nat.{ℕ, _+_, _-_, _%_, _≤_, _<_}
 use mathlib.Core.Path.{_≡_, refl, sym, ap, subst, _∙_}
-use mathlib.Core.Bool.{Bool, true, false, cond, _&&_, false≢true}
-use mathlib.Core.List.{List, [], _∷_}
+use mathlib.Core.Bool.{Bool, true, false, _&&_, false≢true}
+use mathlib.Core.List.{List}
 use native.Mathlib.Omega.{arith}
 use lib.Dec.{leb, eqb}
 use lib.ListN.{getD, set}
-use borrow.Author.Tests.{eq-eqb, ne-eqb, le-leb, lt-leb, leb-true}
+use borrow.Author.Tests.{leb-true}
 use Rattle.weights.specs.Weight.{has}
 use Rattle.weights.proofs.Cases.{by-cond, Below, none, _then_, below}
-use Rattle.wire.specs.Bits.{placeAt, sentBit}
+use Rattle.wire.specs.Bits.{placeAt}
 use Rattle.wire.specs.HighFirst.{sentBits}
 use Rattle.wire.specs.Clock.{sentAt}
 use Rattle.wire.specs.Machine.{clocked}
@@ -30,13 +30,12 @@ use Rattle.counters.specs.Part as part
 use Rattle.counters.specs.declared.Counts.{Counts}
 use Rattle.counters.specs.declared.Counters.{Counters}
 use Rattle.counters.specs.declared.Registers.{Registers}
-use Rattle.family.specs.Run.{runOf}
 use Rattle.family.specs.declared.State.{State}
 use Rattle.clocks.specs.Clocks.{clockEvent}
 use Rattle.law_family.specs.Seen.{countList, registerList}
-use Rattle.law_family.specs.Beats.{afterBeats, among, joined, eightRows}
-use Rattle.law_family.specs.Written.{after, untouched}
-use Rattle.law_family.specs.Fixed.{readEvents, atRest, released, onceRead, isFrozen, SendsByte, Leaves, OfReads}
+use Rattle.law_family.specs.Beats.{among, joined, eightRows}
+use Rattle.law_family.specs.Written.{after}
+use Rattle.law_family.specs.Fixed.{readEvents, atRest, onceRead, isFrozen, SendsByte, Leaves, OfReads}
 use Rattle.law_family.specs.Fixed.{RegisterAt, RegisterFixed, FrozenAt, FrozenFixed, MemoryRead, MemoryFixed}
 use Rattle.law_family.proofs.Runs.{onBus, on-bus, Leads, clock-leads}
 use Rattle.law_family.proofs.Beats.{beatenBy, all-count}
@@ -53,7 +52,7 @@ module _ (size select a : ℕ) (m : List ℕ) (c : Counters) (b : ℕ) (b₀ b�
   abbrev lines : List Bool
   lines = eight d₀ d₁ d₂ d₃ d₄ d₅ d₆ d₇
 
-  register-run : Leads size select (onBus (Read Companion 0 b) a c) m (readEvents rows lines)
+  pub register-run : Leads size select (onBus (Read Companion 0 b) a c) m (readEvents rows lines)
       (onBus (Read Companion 8 (loadOf (beatenBy b₀ c))) a (loadedOf (beatenRows rows c) (loadOf (beatenBy b₀ c)))) m
       (among atRest rows (lower lines (sentBits (loadOf (beatenBy b₀ c)))))
   unfolding clocked sentAt placeAt
@@ -139,7 +138,7 @@ module _ (r : Registers) (n : Counts) where
       each = none then refl then refl then refl then refl
 
 -- the byte that is sent, frozen or not
-loaded-open : (c : Counters) → isFrozen c ≡ false → 9 ≤ c .address → c .address ≤ 24
+pub loaded-open : (c : Counters) → isFrozen c ≡ false → 9 ≤ c .address → c .address ≤ 24
     → loadOf c ≡ getD (registerList (c .registers)) (c .address - 9) 0
 unfolding loadOf
 loaded-open c f l h =

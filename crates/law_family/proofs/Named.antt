@@ -8,10 +8,9 @@ use mathlib.Core.Bool.{Bool, true, false, cond, _&&_, not}
 use mathlib.Core.List.{List, [], _∷_, _++_}
 use native.Mathlib.Omega.{arith}
 use lib.Dec.{leb, eqb}
-use lib.ListN.{getD}
 use borrow.Author.Tests.{eqb-true, eqb-false, le-leb}
 use Rattle.weights.proofs.Cases.{Below, none, _then_, below}
-use Rattle.wire.specs.Bits.{placeAt, pushed, sentBit}
+use Rattle.wire.specs.Bits.{placeAt}
 use Rattle.wire.specs.HighFirst.{sentBits}
 use Rattle.wire.specs.Slave.{slaveNames, answers, opened}
 use Rattle.wire.specs.Clock.{kept, receivedAt}
@@ -180,14 +179,14 @@ module _ (size : ℕ) (a : ℕ) (m : List ℕ) (c : Counters) where
           then slave-leads size 2 a m c 0xD5 true (omega arith) then slave-leads size 3 a m c 0xD7 true (omega arith)
 
 module _ (size select : ℕ) (p : Phase) (a : ℕ) (m : List ℕ) (c : Counters) (b : ℕ) (l : select ≤ 3) (f : 9 ≤ b) (h : b ≤ 24) where
-  write-opens : Leads size select (onBus p a c) m (openWrite select b) (onBus (Write Companion 0 0) a (withAddress c b)) m
+  pub write-opens : Leads size select (onBus p a c) m (openWrite select b) (onBus (Write Companion 0 0) a (withAddress c b)) m
       (true ∷ (nineBits (0xD0 + 2 * select) false ++ nineBits b false))
   write-opens =
       leads-then size select (start-leads size select p a c m)
       (leads-then size select (to-write size a m c select (omega arith))
       (taken-leads size select a m c b true (omega arith) (and-join (leb 9 b) (leb b 24) (le-leb 9 b f) (le-leb b 24 h))))
 
-  read-opens : Leads size select (onBus p a c) m (openRead select b) (onBus (Read Companion 0 0) a (withAddress c b)) m
+  pub read-opens : Leads size select (onBus p a c) m (openRead select b) (onBus (Read Companion 0 0) a (withAddress c b)) m
       ((true ∷ (nineBits (0xD0 + 2 * select) false ++ nineBits b false)) ++ (true ∷ nineBits (0xD1 + 2 * select) false))
   read-opens =
       leads-then size select write-opens

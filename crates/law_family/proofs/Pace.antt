@@ -19,7 +19,7 @@ use Rattle.family.specs.declared.State.{State}
 use Rattle.clocks.specs.Clocks.{linesOf}
 use Rattle.law_family.specs.Beats.{beatEvents, afterBeats, joined}
 use Rattle.law_family.proofs.Runs.{onBus, Leads, leads-then}
-use Rattle.law_family.proofs.Beats.{beatenBy, beatenIn, beats-run}
+use Rattle.law_family.proofs.Beats.{beatenBy, beats-run}
 
 -- the line of a tick and of an edge is at rest
 abbrev pub quiet : Beat → Bool

@@ -14,8 +14,6 @@ use Rattle.counters.specs.Power.{lostOf, returnedOf, blankOf}
 use Rattle.counters.specs.Part.{aimOf, storeOf, loadOf, loadedOf}
 use Rattle.counters.specs.Write.{writtenOf}
 use Rattle.family.specs.Run.{runOf}
-use Rattle.family.specs.declared.Size.{Size}
-use Rattle.family.specs.declared.Size.the-variants.{Kb64, Kb256}
 use Rattle.law_family.specs.Worked.{WorkedLists}
 
 pub worked-lists : WorkedLists

@@ -2,18 +2,18 @@
 -- Each register written: the clocks, with ticks and edges before them, lead to what the companion makes of the byte at its eighth;
 -- which register that is, its address says, and what it keeps is what the bits are worth.
 -- Assumes nothing.
-use Prim.Native.Nat.{ℕ, _+_, _-_, _%_, _≤_, _<_}
+use Prim.Native.Nat.{ℕ, _+_, _-_, _≤_, _<_}
 use mathlib.Core.Path.{_≡_, refl, sym, ap, subst, _∙_}
 use mathlib.Core.Bool.{Bool, true, false, cond, _&&_}
 use mathlib.Core.List.{List, [], _∷_, _++_}
 use native.Mathlib.Omega.{arith}
-use lib.Dec.{leb, eqb}
+use lib.Dec.{eqb}
 use lib.ListN.{set}
 use borrow.Author.Tests.{eq-eqb, ne-eqb, le-leb, lt-leb, eqb-true, eqb-false}
 use Rattle.weights.specs.Weight.{has}
 use Rattle.weights.proofs.Cases.{by-cond, Below, none, _then_, below}
 use Rattle.wire.specs.Bits.{placeAt, pushed, sentBit}
-use Rattle.wire.specs.HighFirst.{pushedAll, sentBits}
+use Rattle.wire.specs.HighFirst.{sentBits}
 use Rattle.wire.specs.Clock.{kept, receivedAt}
 use Rattle.wire.specs.Machine.{clocked}
 use Rattle.wire.specs.declared.Side.the-variants.{Companion}
@@ -21,7 +21,6 @@ use Rattle.wire.specs.declared.Phase.{Phase}
 use Rattle.wire.specs.declared.Phase.the-variants.{Write}
 use Rattle.wire.proofs.Whole.{madeOf, made}
 use Rattle.bus.specs.declared.Beat.{Beat}
-use Rattle.counters.specs.Map.{SERIAL, LAST}
 use Rattle.counters.specs.Registers.{registerBytes, registersOf, putAt}
 use Rattle.counters.specs.Write.{keptAt, isLocked, registersAfter, writtenOf}
 use Rattle.counters.specs.Part.{nextAddress, storeOf}
@@ -29,11 +28,10 @@ use Rattle.counters.specs.declared.Counters.{Counters}
 use Rattle.counters.specs.declared.Counts.{Counts}
 use Rattle.counters.specs.declared.Registers.{Registers}
 use Rattle.counters.proofs.Written.{kept-whole, locked-write, open-write}
-use Rattle.family.specs.Run.{runOf}
 use Rattle.family.specs.declared.State.{State}
-use Rattle.clocks.specs.Clocks.{clockEvent, linesOf, lastLine}
+use Rattle.clocks.specs.Clocks.{clockEvent, lastLine}
 use Rattle.law_family.specs.Seen.{countList, registerList}
-use Rattle.law_family.specs.Beats.{afterBeats, among, joined, eightRows}
+use Rattle.law_family.specs.Beats.{among, joined, eightRows}
 use Rattle.law_family.specs.Written.{flagsBits, watchdogBits, controlBits, countingBits, after, writeEvents, acknowledged, untouched, Stores, OfWrites, withByte, Said}
 use Rattle.law_family.specs.Written as written
 use Rattle.law_family.specs.Written.{FlagsAt, WatchdogAt, ControlAt, CountingAt, CounterAt, SerialAt, LockedAt}
@@ -45,7 +43,7 @@ use Rattle.law_family.proofs.Bits.{flags-bits, watchdog-bits, control-b
 
 -- the eight clocks of a byte for the companion, and the ninth
 module _ (size select a : ℕ) (m : List ℕ) where
-  eighth : (c : Counters) (b₀ b₁ b₂ b₃ b₄ b₅ b₆ b₇ : List Beat) (b : ℕ)
+  pub eighth : (c : Counters) (b₀ b₁ b₂ b₃ b₄ b₅ b₆ b₇ : List Beat) (b : ℕ)
       → let rows = eightRows b₀ b₁ b₂ b₃ b₄ b₅ b₆ b₇ in
       Leads size select (onBus (Write Companion 0 0) a c) m (writeEvents rows b)
       (onBus (Write Companion 8 (madeOf b)) a (storeOf (beatenRows rows c) (madeOf b) .counters)) m
@@ -78,7 +76,7 @@ module _ (size select a : ℕ) (m : List ℕ) where
       (paced size select (p 6 x₆) a m b₆ (e 6) c₅ (clock-leads size select (p 6 x₆) a m c₆ (sentBit 6 b))
       (paced size select (p 7 x₇) a m b₇ (e 7) c₆ (clock-leads size select (p 7 x₇) a m c₇ (sentBit 7 b)) (stays size select _ _))))))))
 
-  ninth : (c : Counters) (x : ℕ) (d : Bool)
+  pub ninth : (c : Counters) (x : ℕ) (d : Bool)
       → Leads size select (onBus (Write Companion 8 x) a c) m (clockEvent d ∷ []) (onBus (Write Companion 0 0) a c) m (false ∷ [])
   unfolding clocked receivedAt placeAt
   ninth c x d = clock-leads size select (Write Companion 8 x) a m c d
@@ -106,7 +104,7 @@ listed-put r a b h =
         then refl then refl then refl then refl then refl then refl then refl then refl
 
 -- a byte that is stored, or left where it is locked
-no-lock : (t : Bool) → (t && false) ≡ false
+pub no-lock : (t : Bool) → (t && false) ≡ false
 no-lock true = refl
 no-lock false = refl
 

@@ -19,15 +19,15 @@ use Rattle.law_family.specs.Seen.{seen}
 use Rattle.law_family.specs.Left.{asItWas, pored, dark, Leave}
 
 -- Auxiliary: nothing is another but the supplies.
-abbrev pub Left : Power → List ℕ → Power → List ℕ → Type 0
-Left power es after answers =
+abbrev pub Stays : Power → List ℕ → Power → List ℕ → Type 0
+Stays power es after answers =
     Leave power es (λ s m. asItWas s m after (s .bus .phase) (s .bus .address) (s .counters .address) answers)
 
 -- 01: "Power lost: the transfer ends", the memory's address becomes 0; 02: "The companion address starts at 09h, also after
 -- power loss". "Event 5 while off .. changes nothing."
 pub record PowerAway : Type 0 where
   pub main : Leave On (5 ∷ []) (λ s m. asItWas s m Backup Idle 0 0x09 (1 ∷ []))
-  pub backup : Left Backup (5 ∷ []) Backup (1 ∷ [])
+  pub backup : Stays Backup (5 ∷ []) Backup (1 ∷ [])
 
 -- Events 5, 7: main power lost and returned, backup present.
 pub record PowerAwayAndBack : Type 0 where
@@ -48,24 +48,24 @@ pub record SuppliesGoneAndBack : Type 0 where
 
 -- 01: "Event 7 while on changes nothing; after backup it sets POR".
 pub record PowerBack : Type 0 where
-  pub main : Left On (7 ∷ []) On (1 ∷ [])
+  pub main : Stays On (7 ∷ []) On (1 ∷ [])
   pub backup : Leave Backup (7 ∷ [])
       (λ s m. pored s m (s .bus .phase) (s .bus .address) (s .counters .address) (1 ∷ []))
-  pub none : Left Off (7 ∷ []) On (1 ∷ [])
+  pub none : Stays Off (7 ∷ []) On (1 ∷ [])
 
 -- With both supplies gone a tick, losses and edges change nothing: "Edges count while power or backup is present".
 pub record OffUnchanged : Type 0 where
-  pub tick : Left Off (4 ∷ []) Off (1 ∷ [])
-  pub lost : Left Off (5 ∷ []) Off (1 ∷ [])
-  pub gone : Left Off (6 ∷ []) Off (1 ∷ [])
-  pub first : Left Off (8 ∷ []) Off (1 ∷ [])
-  pub second : Left Off (9 ∷ []) Off (1 ∷ [])
+  pub tick : Stays Off (4 ∷ []) Off (1 ∷ [])
+  pub lost : Stays Off (5 ∷ []) Off (1 ∷ [])
+  pub gone : Stays Off (6 ∷ []) Off (1 ∷ [])
+  pub first : Stays Off (8 ∷ []) Off (1 ∷ [])
+  pub second : Stays Off (9 ∷ []) Off (1 ∷ [])
 
 -- 01: "While off, bus events do nothing and a Clock's line is the master's": Start, Stop, a Clock with the line low, one with
 -- it high.
 pub record Unheard : Type 0 where
-  pub backup : Left Backup (0 ∷ 1 ∷ 2 ∷ 3 ∷ []) Backup (1 ∷ 1 ∷ 0 ∷ 1 ∷ [])
-  pub none : Left Off (0 ∷ 1 ∷ 2 ∷ 3 ∷ []) Off (1 ∷ 1 ∷ 0 ∷ 1 ∷ [])
+  pub backup : Stays Backup (0 ∷ 1 ∷ 2 ∷ 3 ∷ []) Backup (1 ∷ 1 ∷ 0 ∷ 1 ∷ [])
+  pub none : Stays Off (0 ∷ 1 ∷ 2 ∷ 3 ∷ []) Off (1 ∷ 1 ∷ 0 ∷ 1 ∷ [])
 
 -- "A fresh device has 0 elsewhere."
 abbrev pub FreshSeen : Type 0

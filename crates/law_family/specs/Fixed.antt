@@ -25,7 +25,7 @@ use Rattle.family.specs.Run.{runOf}
 use Rattle.family.specs.declared.State.{State}
 use Rattle.clocks.specs.Clocks.{clocksOf, linesOf}
 use Rattle.law_family.specs.Seen.{countList, registerList}
-use Rattle.law_family.specs.Beats.{beatEvent, afterBeats, among, joined, eightRows}
+use Rattle.law_family.specs.Beats.{beatEvent, afterBeats, among, eightRows}
 use Rattle.law_family.specs.Written.{after, untouched}
 
 abbrev pub readEvents : List (List Beat) → List Bool → List ℕ

@@ -2,15 +2,14 @@
 -- What an event byte is to each device of a set, by the tests that the definition makes of it.
 -- Assumes nothing.
 use Prim.Native.Nat.{ℕ, _+_, _*_, _/_, _≤_, _<_}
-use mathlib.Core.Path.{_≡_, refl, sym, ap, _∙_}
-use mathlib.Core.Bool.{Bool, true, false, cond, _&&_, _||_}
+use mathlib.Core.Path.{_≡_, refl, ap, _∙_}
+use mathlib.Core.Bool.{Bool, true, false, _&&_}
 use native.Mathlib.Omega.{arith}
 use lib.Dec.{eqb, ltb}
 use borrow.Author.Tests.{eq-eqb, ne-eqb, lt-ltb, le-ltb, ltb-true, ltb-false, eqb-true, eqb-false}
-use Rattle.weights.proofs.Cases.{by-cond}
 use Rattle.wire.proofs.Tests.{by-test}
-use Rattle.set31.specs.Set.{Held, Together, Place, first, second, third, fourth, numberOf, at, hears, ownByte}
-use Rattle.set31.specs.Set.{doneIn, afterOwn, afterAt, lineAt, afterEvent, lineTo}
+use Rattle.set31.specs.Set.{Together, Place, first, second, third, fourth, numberOf, at, hears, ownByte}
+use Rattle.set31.specs.Set.{doneIn, afterOwn, afterAt, lineAt, afterEvent}
 use Rattle.law_set.specs.Heard.{OnLine, HearsAll, HearsEdges, OthersLeft, AbsentLeft, LineHigh, LineLow}
 
 pub at-after : (t : Together) (v : Place) (e : ℕ) → at v (afterEvent t e) ≡ afterAt (t .set .count) (numberOf v) (at v t) e

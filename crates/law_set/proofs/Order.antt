@@ -2,26 +2,23 @@
 -- A set that is read, place by place; and its images written, each over its own.
 -- Assumes nothing.
 use Prim.Native.Nat.{ℕ, _*_, _/_, _%_, _<_}
-use mathlib.Core.Path.{_≡_, refl, sym, ap, subst, _∙_}
-use mathlib.Core.Bool.{Bool, true, false, cond, _&&_, false≢true}
+use mathlib.Core.Path.{_≡_, refl}
+use mathlib.Core.Bool.{Bool, true, false, cond, false≢true}
 use mathlib.Core.List.{List}
 use lib.Dec.{eqb, ltb}
 use lib.ListN.{length, getD}
 use borrow.Author.Tests.{lt-ltb}
-use Rattle.weights.proofs.Cases.{by-cond}
 use Rattle.wire.proofs.Tests.{and-split}
 use Rattle.family.specs.Chip.{sizeOf}
-use Rattle.family.specs.declared.Size.{Size}
 use Rattle.family.specs.declared.Size.the-variants.{Kb64, Kb256}
-use Rattle.set31.specs.Set.{Held, Place, first, second, third, fourth, numberOf, at}
-use Rattle.set31.specs.Outcome.{lentTo}
+use Rattle.set31.specs.Set.{first, second, third, fourth, numberOf, at}
 use Rattle.set31.specs.declared.Member.{Member}
 use Rattle.set31.proofs.Facts.{four-of}
 use Rattle.image31.specs.Image.{imageSize, decodeOf}
 use Rattle.image31.specs.declared.Decoded.{Decoded}
 use Rattle.image31.specs.declared.Decoded.the-variants.{Good, Bad}
 use Rattle.image31set.specs.Read.{countOf, markSize, imageAt, gotOf, deviceAt, placeOf, readingOf}
-use Rattle.law_set.specs.Order.{part, ReadAt, ReadInOrder, WrittenInOrder}
+use Rattle.law_set.specs.Order.{ReadAt, ReadInOrder, WrittenInOrder}
 use Rattle.law_set.proofs.Written.{images-long, image-at}
 
 -- the size of a plan's byte

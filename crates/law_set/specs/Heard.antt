@@ -6,7 +6,7 @@
 --   AbsentLeft                a place that is not on the line
 --   LineHigh, LineLow         when the line is high; that one device pulls it low
 -- Assumes nothing.
-use Prim.Native.Nat.{ℕ, _+_, _*_, _/_, _≤_, _<_}
+use Prim.Native.Nat.{ℕ, _+_, _*_, _≤_, _<_}
 use mathlib.Core.Path.{_≡_}
 use mathlib.Core.Bool.{true, false}
 use Rattle.set31.specs.Set.{Together, Place, numberOf, at, doneIn, afterOwn, afterEvent, lineTo}
