@@ -17,6 +17,7 @@ use Rattle.image.specs.Reading.{WrittenBy}
 use Rattle.image.specs.declared.Decoded.{Decoded}
 use Rattle.image.specs.declared.Decoded.the-variants.{Good, Bad}
 use Rattle.image.proofs.Images.{image-decode, settled-decode}
+use Rattle.bus_list.specs.Run as list
 use Rattle.lists.specs.Run.{allKnown}
 use Rattle.contents.specs.Table.{wordAt, entryAt, overlap, isState, isAccepted, bodyOf, standsIn, uneven, clashes, clashesBelow, isSound}
 use Rattle.contents.specs.Sections.{firstFaulty}
@@ -52,12 +53,12 @@ apart-overlap from size from₂ size₂ h =
 
 -- the events of a section
 known-each : (es : List ℕ) → allKnown es ≡ true → EachKnown es
-unfolding allKnown
+unfolding list.allKnown
 known-each [] h = tt
 known-each (e ∷ es) h = let s = and-split (leb e 7) (allKnown es) h in (leb-true e 7 (s .0), known-each es (s .1))
 
 each-known : (es : List ℕ) → EachKnown es → allKnown es ≡ true
-unfolding allKnown
+unfolding list.allKnown
 each-known [] h = refl
 each-known (e ∷ es) h = and-join (leb e 7) (allKnown es) (le-leb e 7 (h .0)) (each-known es (h .1))
 

@@ -4,10 +4,10 @@
 -- Assumes nothing.
 use Prim.Native.Nat.{ℕ, zero, suc, _+_, _*_, _≤_, _<_}
 use mathlib.Core.Path.{_≡_, refl, sym, ap, subst, _∙_}
-use mathlib.Core.Bool.{true, _&&_, and-assoc}
+use mathlib.Core.Bool.{true, _&&_}
 use mathlib.Core.List.{List, [], _∷_, _++_, append-assoc, append-nil}
 use native.Mathlib.Omega.{arith}
-use lib.Dec.{leb, ltb}
+use lib.Dec.{leb}
 use lib.ListN.{length, take, drop, length-append}
 use lib.Seq.{take-all, take-add, drop-append-add, drop-length}
 use borrow.Author.Tests.{lt-ltb, leb-true}
@@ -25,6 +25,7 @@ use Rattle.image31set.specs.Write.{imagesOf}
 use Rattle.image31set.specs.declared.Reading.{Reading}
 use Rattle.image31set.proofs.Readings.{reading-length, reading-within}
 use Rattle.law_set.proofs.Written.{images-long, image-of}
+use Rattle.bus_list.proofs.Runs as list
 use Rattle.run31set.specs.Run.{Ended, following, runOf, allKnown}
 use Rattle.run31set.proofs.Runs.{run-together}
 use Rattle.rig31set.specs.Entry.{runNumber, Outcome, written, runOutcome}
@@ -92,9 +93,7 @@ run-append t [] ys = refl
 run-append t (e ∷ xs) ys = ap (following (answerByte (lineTo t e) ∷ [])) (run-append (afterEvent t e) xs ys)
 
 known-append : (n : ℕ) (xs ys : List ℕ) → allKnown n (xs ++ ys) ≡ (allKnown n xs && allKnown n ys)
-unfolding allKnown
-known-append n [] ys = refl
-known-append n (e ∷ xs) ys = rw (known-append n xs ys) (sym (and-assoc (ltb e (8 + 2 * n)) (allKnown n xs) (allKnown n ys)))
+known-append n = list.known-append (7 + 2 * n)
 
 answers-joined : (x y xs ys a b : List ℕ) → length a ≡ length xs
     → (x ++ y) ++ drop (length (xs ++ ys)) (a ++ b) ≡ (x ++ drop (length xs) a) ++ (y ++ drop (length ys) b)

@@ -13,6 +13,7 @@ use Rattle.device.specs.Event.{happening}
 use Rattle.image.specs.declared.Decoded.the-variants.{Good}
 use Rattle.image.specs.Image.{decodeOf}
 use Rattle.image.proofs.Images.{settled-decode}
+use Rattle.bus_list.specs.Run as list
 use Rattle.lists.specs.Run.{allKnown}
 use Rattle.holding.specs.Bus.{holds, masterOf, holderOf, anyBus, isBus, mayCall, standingOf}
 use Rattle.holding.specs.declared.Standing.the-variants.{Known}
@@ -24,7 +25,7 @@ use Rattle.law_masters.specs.Each.{Each, Handed}
 use Rattle.law_masters.specs.Calls.{NotHeld, Neither, Holding}
 
 known : (es : List ℕ) → Each (λ e. e ≤ 7) es → allKnown es ≡ true
-unfolding allKnown
+unfolding list.allKnown
 known [] h = refl
 known (e ∷ es) h = and-join (leb e 7) (allKnown es) (le-leb e 7 (h .0)) (known es (h .1))
 

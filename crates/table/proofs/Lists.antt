@@ -13,6 +13,7 @@ use Rattle.image.specs.Image.{decodeOf}
 use Rattle.image.specs.Reading.{WrittenBy}
 use Rattle.image.specs.declared.Decoded.the-variants.{Good, Bad}
 use Rattle.image.proofs.Images.{settled-decode}
+use Rattle.bus_list.specs.Run as list
 use Rattle.lists.specs.Run.{Outcome, allKnown}
 use Rattle.lists.proofs.Runs.{outcome-wrong-memory, outcome-wrong-image, outcome-unknown-event, outcome-short-answers}
 use Rattle.lists.proofs.Runs.{outcome-written}
@@ -20,12 +21,12 @@ use Rattle.lists.proofs.Pieces.{known-append}
 use Rattle.table.specs.Lists.{EachKnown, EveryListNumber}
 
 known : (es : List ℕ) → EachKnown es → allKnown es ≡ true
-unfolding allKnown
+unfolding list.allKnown
 known [] h = refl
 known (e ∷ es) h = and-join (leb e 7) (allKnown es) (le-leb e 7 (h .0)) (known es (h .1))
 
 unknown : (before after : List ℕ) (e : ℕ) → 7 < e → allKnown (before ++ (e ∷ after)) ≡ false
-unfolding allKnown
+unfolding list.allKnown
 unknown before after e h =
     known-append before (e ∷ after) ∙ rw (lt-leb e 7 h) (and-false (allKnown before))
 
