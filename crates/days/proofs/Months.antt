@@ -65,18 +65,6 @@ month-start-wrap k h = by-century (ltb k 1200) refl
         let s = ap monthStart r ∙ month-start-later (k % 1200) in
         omega arith
 
--- a month by its place in its four years
-pub month-start-four : (q r : ℕ) → q * 1461 + monthStart r ≡ monthStart (q * 48 + r)
-month-start-four q r =
-    let e : q * 48 + r ≡ r + 48 * q = omega arith in
-    let s = ap monthStart e ∙ month-start-cycles q r in
-    omega arith
-
-pub month-start-split : (k : ℕ) → k / 48 * 1461 + monthStart (k % 48) ≡ monthStart k
-month-start-split k =
-    let e : k / 48 * 48 + k % 48 ≡ k = omega arith in
-    month-start-four (k / 48) (k % 48) ∙ ap monthStart e
-
 -- near its even share of the days: computed for the months of one cycle
 abbrev isNear : ℕ → Bool
 isNear k = leb (48 * monthStart k) (1461 * k + 63) && leb (1461 * k) (48 * monthStart k + 78)
@@ -138,38 +126,9 @@ module _ (d : ℕ) (h : d < 73000) where
       let e : shareOf d ≡ shareOf d - 1 + 1 = omega arith in
       record { known = omega arith; from = omega arith; to = subst (λ (k : ℕ). d < monthStart k) e l }
 
--- the same by the four years and the share in them
-abbrev pub shareIn : ℕ → ℕ
-shareIn d = (48 * (d % 1461) + 78) / 1461
-
-module _ (d : ℕ) (h : d < 73000) where
-  share-split : shareOf d ≡ d / 1461 * 48 + shareIn d
-  share-split = omega arith
-
-  share-starts : monthStart (shareOf d) ≡ d / 1461 * 1461 + monthStart (shareIn d)
-  share-starts = ap monthStart share-split ∙ sym (month-start-four (d / 1461) (shareIn d))
-
-  pub found-there : d / 1461 * 1461 + monthStart (shareIn d) ≤ d → InMonth d (d / 1461 * 48 + shareIn d)
-  found-there l = subst (λ (k : ℕ). InMonth d k) share-split (in-share d h (omega (arith, share-starts)))
-
-  module _ (l : d < d / 1461 * 1461 + monthStart (shareIn d)) where
-    pub some-before : 1 ≤ shareIn d
-    some-before = share-some (d % 1461) (omega arith) (omega arith)
-
-    pub found-before : InMonth d (d / 1461 * 48 + (shareIn d - 1))
-    found-before =
-        let s = some-before in
-        let e : shareOf d - 1 ≡ d / 1461 * 48 + (shareIn d - 1) = omega arith in
-        subst (λ (k : ℕ). InMonth d k) e (before-share d h (omega (arith, share-starts)))
-
--- a day's place in its month, by the start in four years that the table has
-pub stands-found : (d q r start : ℕ) → InMonth d (q * 48 + r) → start ≡ monthStart r
-    → StandsIn d (record { month = q * 48 + r; past = d - (q * 1461 + start) })
-stands-found d q r start t e =
-    record {
-      inMonth = t;
-      past = ap (λ (n : ℕ). d - n) (ap (λ (n : ℕ). q * 1461 + n) e ∙ month-start-four q r);
-    }
+-- a day's place in its month, by the start that the table has
+pub stands-found : (d k start : ℕ) → InMonth d k → start ≡ monthStart k → StandsIn d (record { month = k; past = d - start })
+stands-found d k start t e = record { inMonth = t; past = ap (λ (n : ℕ). d - n) e }
 
 pub record MonthOf (d : ℕ) : Type 0 where
   pub index : ℕ

@@ -7,7 +7,7 @@ ghost use Rattle.calendar.specs.Field.{value, bcd};
 ghost use Rattle.calendar.specs.Next.{isValid};
 ghost use Rattle.calendar.specs.Instant.{timeOf};
 ghost use Rattle.days.specs.Places.{momentOf, PlacedAt};
-use crate::starts::first_start;
+use crate::starts::month_start;
 use crate::starts::place_of;
 use calendar::Calendar;
 
@@ -45,14 +45,12 @@ pub fn standing(calendar: Calendar) -> Moment
     requires { ⌜ T (isValid calendar) ⌝ }
     ensures { λ r. ⌜ r ≡ momentOf calendar ⌝ }
 {
-    let year = number(calendar.year);
-    let month = year % 4 * 12 + (number(calendar.month) - 1);
-    let rest = first_start(month) + (number(calendar.date) - 1);
-    let second = time(calendar);
+    let month = 12 * number(calendar.year) + (number(calendar.month) - 1);
+    let day = month_start(month) + (number(calendar.date) - 1);
     Moment {
-        month: year / 4 * 48 + month,
-        day: year / 4 * 1461 + rest,
-        second: second,
+        month: month,
+        day: day,
+        second: time(calendar),
     }
 }
 

@@ -36,7 +36,7 @@ returns-2 c =
     let next = c .before .before in
     let i = next .before in
     let s = i .before .before in
-    rw (next .month-start .ensures)
+    rw (next .month-start .ensures .0)
     (rings-any (s .args .alarm) (s .args .month) (s .args .from) (s .args .to) (omega (arith, s .pre .0)) (s .pre .1) (s .pre .2)
     (sym (i .before .passes .ensures) ∙ not-false _ (i .if1 .left))
     (sym (c .before .has .ensures) ∙ c .if2 .taken))
@@ -55,7 +55,7 @@ add-end c =
           omega (
             arith,
             month-start-most (s .args .month) (omega (arith, s .pre .0)),
-            c .before .month-start2 .ensures,
+            c .before .month-start2 .ensures .0,
             c .asked .ensures .least,
           );
     }
@@ -67,7 +67,7 @@ returns-3 c =
     let next = any .before .before in
     let i = next .before in
     let s = i .before .before in
-    rw (next .month-start .ensures, start .month-start2 .ensures)
+    rw (next .month-start .ensures .0, start .month-start2 .ensures .0)
     (rings-one (s .args .alarm) (s .args .month) (s .args .from) (s .args .to) (omega (arith, s .pre .0)) (s .pre .1) (s .pre .2)
     (sym (i .before .passes .ensures) ∙ not-false _ (i .if1 .left))
     (c .asked .result) (c .asked .ensures) (sym (any .before .has .ensures) ∙ any .if2 .left))

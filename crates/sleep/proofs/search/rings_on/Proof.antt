@@ -80,7 +80,7 @@ loop-again : tie.Need-loop-again Inv-loop μ-loop
 loop-again c =
     let n = c .before .before in
     let l = n .before .before .before .before .loop in
-    let e = c .before .month-start .ensures in
+    let e = c .before .month-start .ensures .0 in
     let r = subst (λ (k : ℕ). Later (l .day) k (c .later .result)) e (c .later .ensures) in (
       r .second,
       omega (arith, r .first, l .inv .1),
