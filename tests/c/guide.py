@@ -121,7 +121,8 @@ def main(folder):
     if len(typed) < 30 or len(steps) - len(typed) < 4:
         sys.exit(f"guide.py: {len(typed)} commands and {len(steps) - len(typed)} programs are few")
     with tempfile.TemporaryDirectory() as scratch:
-        environment = {**os.environ, "TMPDIR": scratch}
+        # Debian has i2c-tools in a folder that is on root's PATH alone.
+        environment = {**os.environ, "TMPDIR": scratch, "PATH": os.environ["PATH"] + ":/usr/sbin"}
         subprocess.run(["bash", "-c", script_of(steps, folder.resolve())], env=environment, check=False)
     for number, step in enumerate(steps):
         fault = fault_of(step, number, folder) if isinstance(step, Typed) else ""
