@@ -30,6 +30,10 @@ const MOST_TICKS_DRAWN: u64 = 8;
 /// The scope that all wires stand in.
 const SCOPE: &str = "fm3130";
 
+/// The letter of a number: how many ticks the last long pulse stands for, so that whoever reads the waveform can tell. It
+/// is no wire, and sigrok passes it over.
+const TICKS: char = '-';
+
 /// How a view of ours begins; one that somebody else made is left alone.
 pub const VIEW_BEGIN: &str = "[*] fm3130 run\n";
 
@@ -171,11 +175,12 @@ impl<'run> Waveform<'run> {
         for ((letter, name, _), _) in &wires {
             head.push_str(&format!("$var wire 1 {letter} {name} $end\n"));
         }
-        head.push_str("$upscope $end\n$enddefinitions $end\n#0\n$dumpvars\n");
+        head.push_str(&format!("$var real 64 {TICKS} TICKS $end\n$upscope $end\n"));
+        head.push_str("$enddefinitions $end\n#0\n$dumpvars\n");
         for ((letter, _, _), level) in &wires {
             head.push_str(&format!("{}{letter}\n", u8::from(*level)));
         }
-        head.push_str("$end\n");
+        head.push_str(&format!("r0 {TICKS}\n$end\n"));
         self.written = Some(0);
         self.file.write(head.as_bytes())
     }
@@ -256,10 +261,8 @@ impl<'run> Waveform<'run> {
     fn draw_ticks(&mut self) -> Outcome {
         let count = std::mem::take(&mut self.ticks);
         if count > MOST_TICKS_DRAWN {
-            // Whoever reads the waveform can tell how many they were.
-            let comment = format!("$comment ticks {count} $end\n");
-            self.file.write(comment.as_bytes())?;
             self.set(DATA, Wire::Tick, true)?;
+            self.file.write(format!("r{count} {TICKS}\n").as_bytes())?;
             self.now += WINDOW * (MOST_TICKS_DRAWN - 1);
             self.set(CLOCK_FALLS, Wire::Tick, false)?;
             self.now += WINDOW;

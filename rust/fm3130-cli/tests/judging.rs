@@ -402,10 +402,10 @@ fn a_recording_may_begin_inside_a_byte() {
     folder.run_with(&[&["run", "-"], &words[..]].concat(), "{1111111} ]");
     let words = ["judge", "--from-vcd", "rest.vcd", "--image", "before"];
     let said = folder.succeed(&words);
-    assert_eq!(
-        said,
-        "all agree: 6 answers of the part, in 8 events; in a transaction that was under way\n"
-    );
+    let agreed =
+        "all agree: 6 answers of the part, in 8 events; in a transaction that was under way\n\
+                  the ACS pin agrees after 8 events\n";
+    assert!(said.starts_with(agreed), "{said}");
 }
 
 #[test]

@@ -18,7 +18,8 @@ fn read(text: &str) -> Waveform {
     let (head, body) = text.split_once("$enddefinitions $end\n").expect("a head");
     assert!(head.contains("$timescale 1 us $end"));
     let mut names = BTreeMap::new();
-    for line in head.lines().filter(|line| line.starts_with("$var ")) {
+    assert!(head.contains("\n$var real 64 - TICKS $end\n"));
+    for line in head.lines().filter(|line| line.starts_with("$var wire")) {
         let words: Vec<&str> = line.split(' ').collect();
         assert_eq!(words[..3], ["$var", "wire", "1"], "{line}");
         assert_eq!(words[5], "$end");
@@ -40,7 +41,7 @@ fn read(text: &str) -> Waveform {
                 changes.push((time.expect("a time"), letter, line.starts_with('1')));
             }
             // How many ticks a long pulse stands for.
-            _ if line.starts_with("$comment ticks ") => assert!(line.ends_with(" $end"), "{line}"),
+            ("r", number) => assert!(number.ends_with(" -"), "{line}"),
             _ => assert!(line == "$dumpvars" || line == "$end", "{line}"),
         }
     }

@@ -253,7 +253,9 @@ fn judge_waveform(
             told.say(&window.events[window.piece - window.first..last - window.first])?;
         }
     }
-    told.finish()?;
+    if has_words {
+        told.finish()?;
+    }
     if let Some(difference) = difference {
         if let Some(words) = recording.seems_swapped() {
             return Err(of_waveform(words));

@@ -33,6 +33,9 @@ const MOST_SIGNS: usize = 1 << 16;
 /// How a sigrok session file begins: it is a ZIP archive.
 pub const SESSION_BEGIN: [u8; 4] = *b"PK\x03\x04";
 
+/// The number of ticks that a pulse stands for, in our own waveforms.
+const NUMBER: &str = "TICKS";
+
 /// The wires beside the bus, as our own waveforms name them.
 const BESIDE: [(&str, Wire); 6] = [
     ("TICK", Wire::Tick),
@@ -137,6 +140,8 @@ pub struct Recording<Input> {
     counts: Counts,
     /// What changes at the moment under way.
     changes: [Option<Change>; WIRES],
+    /// The mark of the number of ticks, if there is one.
+    number: Option<String>,
     /// The ticks of the next pulse.
     ticks: u64,
     is_over: bool,
@@ -160,6 +165,7 @@ impl<Input: BufRead> Recording<Input> {
             swapped: Wires::new(state),
             counts: Counts::default(),
             changes: [None; WIRES],
+            number: mark_of(&wires, NUMBER),
             ticks: 1,
             is_over: false,
         })
@@ -208,14 +214,17 @@ impl<Input: BufRead> Recording<Input> {
             }
             [b'$', ..] => {
                 if word == "$comment" {
-                    self.take_comment()?;
+                    self.words.up_to_end()?;
                 }
                 return Ok(());
             }
-            // A vector or a real number; its wire is the next word.
-            [b'b' | b'B' | b'r' | b'R', .., value] => {
-                (*value, self.words.next()?.unwrap_or_default())
+            [b'r' | b'R', ..] => {
+                let mark = self.words.next()?.unwrap_or_default();
+                self.take_number(&word[1..], &mark);
+                return Ok(());
             }
+            // A vector; its wire is the next word.
+            [b'b' | b'B', .., value] => (*value, self.words.next()?.unwrap_or_default()),
             [value, ..] => (*value, word.get(1..).unwrap_or_default().to_string()),
             [] => return Ok(()),
         };
@@ -226,20 +235,19 @@ impl<Input: BufRead> Recording<Input> {
         Ok(())
     }
 
-    /// Our own waveforms say how many ticks one long pulse stands for.
-    fn take_comment(&mut self) -> Result<(), String> {
-        let words = self.words.up_to_end()?;
-        if let [name, count] = &words[..] {
-            if let (true, Ok(count)) = (name == "ticks", count.parse()) {
-                self.ticks = count;
-            }
+    /// Our own waveforms have a number of the ticks that one long pulse stands for.
+    fn take_number(&mut self, number: &str, mark: &str) {
+        if self.number.as_deref() != Some(mark) {
+            return;
         }
-        Ok(())
+        if let Some(ticks) = number.parse().ok().filter(|ticks| *ticks > 0) {
+            self.ticks = ticks;
+        }
     }
 
     fn step(&mut self) {
         let changes = std::mem::replace(&mut self.changes, [None; WIRES]);
-        // The number in a comment is that of the next pulse, and not of the end of the one before.
+        // The number is that of a pulse that begins, and not of the end of the one before.
         let is_high = matches!(changes[Wire::Tick as usize], Some(Change::To(true)));
         let ticks = match is_high {
             true => std::mem::replace(&mut self.ticks, 1),
@@ -300,13 +308,16 @@ impl<Input: BufRead> Recording<Input> {
     }
 }
 
+/// The mark that stands for a name in the file.
+fn mark_of(wires: &[(String, String)], wanted: &str) -> Option<String> {
+    let mut found = wires.iter();
+    let found = found.find(|(_, name)| name.eq_ignore_ascii_case(wanted));
+    found.map(|(mark, _)| mark.clone())
+}
+
 /// The marks that stand for the wires in the file: the two of the bus must be there.
 fn marks(wires: &[(String, String)], names: [&String; 2]) -> Result<Vec<(String, Wire)>, String> {
-    let mark = |wanted: &str| {
-        let mut found = wires.iter();
-        let found = found.find(|(_, name)| name.eq_ignore_ascii_case(wanted));
-        found.map(|(mark, _)| mark.clone())
-    };
+    let mark = |wanted: &str| mark_of(wires, wanted);
     let [clock, data] = names.map(|name| mark(name));
     let mut marks = match (clock, data) {
         (Some(clock), Some(data)) if clock != data => {
@@ -541,8 +552,8 @@ mod tests {
     #[test]
     fn ticks_and_power_have_wires_of_their_own() {
         let head = "$var wire 1 ! SCL $end $var wire 1 \" SDA $end $var wire 1 t TICK $end \
-                    $var wire 1 v VDD $end $var wire 1 s SUPPLIED $end $enddefinitions $end\n";
-        let body = "#0 1! 1\" 0t 1v 1s #1 1t #2 0t $comment ticks 4 $end #3 1t #4 0t #5 0v #6 1v #7 0v 0s \
+                    $var real 64 n TICKS $end $var wire 1 v VDD $end $var wire 1 s SUPPLIED $end $enddefinitions $end\n";
+        let body = "#0 1! 1\" 0t 1v 1s r0 n #1 1t #2 0t #3 1t r4 n #4 0t #5 0v #6 1v #7 0v 0s \
                     #8 1s #9 1v #10 0\" #11 0! # ";
         let state = Device::fresh().state();
         let seen = read(&format!("{head}{body}{NAMED}"), "SCL", "SDA", &state).unwrap();
@@ -553,10 +564,9 @@ mod tests {
     #[test]
     fn the_pin_is_what_the_wires_are_before_the_next_event() {
         let head = "$var wire 1 ! SCL $end $var wire 1 \" SDA $end $var wire 1 t TICK $end \
-                    $var wire 1 p ACS $end $var wire 1 h ACS_F1 $end $var wire 1 l ACS_F0 $end \
+                    $var real 64 n TICKS $end $var wire 1 p ACS $end $var wire 1 h ACS_F1 $end $var wire 1 l ACS_F0 $end \
                     $enddefinitions $end\n";
-        let body =
-            "#0 1! 1\" 0t 1p 0h 1l #1 $comment ticks 3 $end 1t #2 0t #3 0p #4 0\" #5 0! 1p # ";
+        let body = "#0 1! 1\" 0t 1p 0h 1l #1 r3 n 1t #2 0t #3 0p #4 0\" #5 0! 1p # ";
         let state = Device::fresh().state();
         let seen = read(&format!("{head}{body}{NAMED}"), "SCL", "SDA", &state).unwrap();
         let alarm = |is_low| PinSeen {
