@@ -63,17 +63,18 @@ check: ## prove the crates that changed, and run the programs
 	@tools/proving.sh build/log/check.txt rt check || { cat build/log/check.txt; exit 1; }
 	@tail -n 1 build/log/check.txt
 
+# The command is compiled without optimization, which takes half as long.
 demo: host ## play a proving session through the C host, in words, and draw its wires and its lamps
 	@mkdir -p build/demo
 	@$(HOST) --session --save-events build/demo/events --answers build/demo/answers | tee build/demo/proving-session.txt
 	@printf '\nThe command fm3130 plays the same, once it is compiled:\n'
 	@tools/setup.sh command
-	@$(COMPILE_COMMAND)
-	@$(FM3130) run $(SESSION) --quiet --answers build/demo/script-answers \
+	@$(PATIENT) 'being compiled' cargo build --offline --quiet --package fm3130-cli
+	@build/cargo/debug/fm3130 run $(SESSION) --quiet --answers build/demo/script-answers \
 		--vcd build/demo/proving-session.vcd --svg build/demo/proving-session.svg
 	@cmp build/demo/answers build/demo/script-answers
 	@printf '\nThe command fm3130 played %s and got the same answers. Its lamps, where they change:\n\n' $(SESSION)
-	@$(FM3130) lamps $(SESSION) --svg build/demo/lamps.svg | tee build/demo/lamps.txt | grep -e '<-' -e '^0'
+	@build/cargo/debug/fm3130 lamps $(SESSION) --svg build/demo/lamps.svg | tee build/demo/lamps.txt | grep -e '<-' -e '^0'
 	@printf '\nWhere it is lit last, it is by the old bit, which the write that hung had left: docs/GUIDE.md says what lit means.\n'
 	@printf '\nTo look at:\n'
 	@printf '  build/demo/%s\n' 'proving-session.txt  the words above' 'proving-session.svg  the wires, for a browser' \
