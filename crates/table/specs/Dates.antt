@@ -10,8 +10,8 @@ use mathlib.Core.Bool.{true}
 use mathlib.Core.List.{List}
 use Rattle.calendar.specs.Next.{isValid}
 use Rattle.image.specs.Image.{calendarAt}
+use Rattle.bus_list.specs.Calls.{Call, callsOf}
 use Rattle.lists.specs.Run.{outcomeOf}
-use Rattle.lists.specs.Calls.{Call, callsOf}
 
 abbrev pub DateIn : List ℕ → Type 0
 DateIn i = isValid (calendarAt i 15) ≡ true
@@ -20,4 +20,4 @@ abbrev pub CallStaysValid : Type 0
 CallStaysValid = (i m es a : List ℕ) → DateIn i → DateIn (outcomeOf i m es a .image)
 
 abbrev pub CallsStayValid : Type 0
-CallsStayValid = (i m : List ℕ) (cs : List Call) → DateIn i → DateIn (callsOf i m cs .image)
+CallsStayValid = (i m : List ℕ) (cs : List Call) → DateIn i → DateIn (callsOf outcomeOf i m cs .image)
