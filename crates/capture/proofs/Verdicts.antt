@@ -10,12 +10,13 @@ use native.Mathlib.Omega.{arith}
 use lib.Dec.{eqb}
 use lib.ListN.{length, take, drop}
 use borrow.Author.Tests.{le-leb, lt-leb, eq-eqb, ne-eqb, eqb-true}
+use Rattle.wire.proofs.Tests.{by-test}
 use Rattle.device.specs.Chip.{memorySize}
-use Rattle.device.specs.declared.State.{State}
 use Rattle.image.specs.Image.{candidate, decodeOf}
 use Rattle.lists.specs.Run.{runOf, allKnown}
-use Rattle.image.specs.declared.Decoded.the-variants.{Good, Bad}
-use Rattle.image.proofs.Images.{candidate-of, image-decode}
+use Rattle.image.specs.Accepting.{isImage}
+use Rattle.image.specs.declared.Decoded.the-variants.{Bad}
+use Rattle.image.proofs.Accepts.{image-not-read}
 use Rattle.contents.specs.Table.{bodyOf, isState, isAccepted, imageKind, memoryKind, eventsKind, answersKind}
 use Rattle.contents.specs.Sections.{firstFaulty, entryOf, sectionOf}
 use Rattle.contents.specs.declared.Entry.{Entry}
@@ -70,11 +71,16 @@ module _ (f : List ℕ) where
 
 -- what the sections of a sound file hold
 module _ (f : List ℕ) (z : firstFaulty f ≡ 0) where
-  pub image-state : decodeOf (sectionOf f imageKind) ≡ Bad → ⊥
+  image-state : decodeOf (sectionOf f imageKind) ≡ Bad → ⊥
   unfolding isAccepted
   image-state b =
       let t : isState (decodeOf (sectionOf f imageKind)) ≡ true = accepted f z imageKind (omega arith) (omega arith) in
       false≢true (rw b at t)
+
+  pub image-good : isImage (sectionOf f imageKind) ≡ true
+  image-good =
+      by-test (isImage (sectionOf f imageKind)) (λ t. t)
+      (λ t. absurd (image-state (image-not-read (sectionOf f imageKind) t)))
 
   pub memory-length : length (sectionOf f memoryKind) ≡ memorySize
   unfolding isAccepted
@@ -102,10 +108,7 @@ module _ (f : List ℕ) (z : firstFaulty f ≡ 0) where
 
     -- the replay of what was found is the verdict
     pub replay-done : length f ≤ limit → (i m : List ℕ) → i ≡ sectionOf f imageKind → m ≡ sectionOf f memoryKind
-        → (state : State) → decodeOf i ≡ Good state
-        → compared 0 (runOf state m (bodyOf f ev) .answers) (take (ev .size) (drop (an .from) f)) ≡ verdictOf f
-    replay-done l i m pi pm state d =
-        let c : candidate (sectionOf f imageKind) ≡ state =
-        ap candidate (sym (image-decode _ _ d .1 ∙ pi)) ∙ candidate-of state in
+        → compared 0 (runOf (candidate i) m (bodyOf f ev) .answers) (take (ev .size) (drop (an .from) f)) ≡ verdictOf f
+    replay-done l i m pi pm =
         let a : take (ev .size) (drop (an .from) f) ≡ sectionOf f answersKind = rw counts (ap (bodyOf f) pa) in
-        rw (a, pm, ap (bodyOf f) pe, ← c) (verdict-replayed f l z)
+        rw (a, pm, pi, ap (bodyOf f) pe) (verdict-replayed f l z)

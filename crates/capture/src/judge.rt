@@ -1,12 +1,11 @@
 // SPDX-License-Identifier: Apache-2.0
-// The verdict on a capture: its length and its table first, then the recorded events one by one.
+// The verdict on a capture: its length and its table first, then the recorded events.
 ghost use mathlib.Core.Path.{_≡_};
 ghost use Rattle.capture.specs.Verdict.{figuresOf, JudgeSettled, JudgeForCSettled};
 use crate::Figures;
 use crate::Judgement;
 use crate::Verdict;
 use crate::replay::replay;
-use accept::decode;
 use contents::ANSWERS_KIND;
 use contents::EVENTS_KIND;
 use contents::IMAGE_KIND;
@@ -15,13 +14,13 @@ use contents::faults::first_faulty;
 use contents::sections::entry_of;
 use contents::sections::section;
 use frame::bytes::copy;
-use image::Decoded;
+use image::LENGTH;
 use image::MEMORY;
 
 // The bytes of the longest capture: 60 KiB.
 const LIMIT: usize = 61440;
 
-// The verdict on a capture. The file is only read; the events change a copy of its memory.
+// The verdict on a capture. The file is only read; the events change copies of its image and its memory.
 pub fn judge(file: &[u8]) -> Verdict
     ensures { λ r. ⌜ JudgeSettled (now (file .entry)) r ⌝ }
 {
@@ -32,16 +31,14 @@ pub fn judge(file: &[u8]) -> Verdict
     if faulty != 0 {
         return Verdict::Faulty(faulty);
     }
-    // A sound file's image is one that a state writes: the other way is never gone.
-    let Decoded::Good(state) = decode(section(file, IMAGE_KIND)) else {
-        return Verdict::TooLong;
-    };
+    let mut image = [0u8; LENGTH];
+    copy(section(file, IMAGE_KIND), &mut image);
     let mut memory = [0u8; MEMORY];
     copy(section(file, MEMORY_KIND), &mut memory);
     let events = entry_of(file, EVENTS_KIND);
     let answers = entry_of(file, ANSWERS_KIND);
     replay(
-        state,
+        &mut image,
         &mut memory,
         file,
         events.from as usize,

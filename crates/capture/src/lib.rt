@@ -1,7 +1,7 @@
 // SPDX-License-Identifier: Apache-2.0
 // Judging a capture: a recording of events and answers, with the image and the memory that it began from.
 //
-// replay     the recorded events one by one, beside the recorded answers
+// replay     the recorded events, in stretches, beside the recorded answers
 // judge      the verdict, its figures, and the entry for C
 pub mod judge;
 mod replay;

@@ -8,12 +8,13 @@ use denote.Ref.{now}
 use lib.ListN.{length, length-replicate}
 use borrow.Author.Needs.{needs}
 use native.Mathlib.Omega.{arith}
-use Rattle.image.proofs.Images.{settled-decode, image-decode}
+use Rattle.image.specs.Accepting.{isImage}
+use Rattle.image.proofs.Accepts.{image-long}
 use Rattle.contents.specs.Table.{eventsKind}
 use Rattle.contents.specs.Sections.{firstFaulty}
 use Rattle.contents.proofs.Finding.{inside}
 use Rattle.capture.specs.Verdict.{figuresOf}
-use Rattle.capture.proofs.Verdicts.{verdict-too-long, verdict-faulty, image-state, memory-length, events-known}
+use Rattle.capture.proofs.Verdicts.{verdict-too-long, verdict-faulty, image-good, memory-length, events-known}
 use Rattle.capture.proofs.Verdicts.{answers-inside, replay-done}
 use Rattle.capture.proofs.judge.judge.Statement.{statement}
 use Rattle.capture.proofs.judge.judge.Tie as tie
@@ -40,30 +41,24 @@ returns-2 c =
 section-requires : tie.Need-section-requires
 section-requires c κs = search needs
 
-decode-requires : tie.Need-decode-requires
-decode-requires c κs = search needs
-
-enum-known-state : tie.Need-enum-known-state
-enum-known-state c = search needs
-
-enum-told : tie.Need-enum-told
-enum-told c = search needs
-
-returns-3 : tie.Need-returns-3
-returns-3 c =
-    let d = c .before .before .before .before in
-    let g = settled-decode _ _ (c .before .before .decode .ensures) ∙ c .enum-told .given .1 in
-    absurd (image-state (file d) (no-fault d) (rw (c .before .before .before .section .ensures) at g))
-
-section-requires-2 : tie.Need-section-requires-2
-section-requires-2 c κs = search needs
-
 slice-aggregate-copy : tie.Need-slice-aggregate-copy
 slice-aggregate-copy c = search needs
 
 copy-requires : tie.Need-copy-requires
 copy-requires c κs =
-    let d = c .before .before .before .before .before .before .before in
+    let d = c .before .before in
+    length-replicate {A = ℕ} 64 0
+    ∙ sym (ap length (c .before .section .ensures) ∙ image-long _ (image-good (file d) (no-fault d)))
+
+section-requires-2 : tie.Need-section-requires-2
+section-requires-2 c κs = search needs
+
+slice-aggregate-copy-2 : tie.Need-slice-aggregate-copy-2
+slice-aggregate-copy-2 c = search needs
+
+copy-requires-2 : tie.Need-copy-requires-2
+copy-requires-2 c κs =
+    let d = c .before .before .before .before .before .before in
     length-replicate {A = ℕ} 8192 0
     ∙ sym (ap length (c .before .section2 .ensures) ∙ memory-length (file d) (no-fault d))
 
@@ -76,6 +71,9 @@ entry-of-requires-2 c κs = search needs
 slice-aggregate-replay : tie.Need-slice-aggregate-replay
 slice-aggregate-replay c = search needs
 
+slice-aggregate-replay-2 : tie.Need-slice-aggregate-replay-2
+slice-aggregate-replay-2 c = search needs
+
 cast-replay : tie.Need-cast-replay
 cast-replay c = search needs
 
@@ -87,36 +85,29 @@ cast-replay-3 c = search needs
 
 replay-requires : tie.Need-replay-requires
 replay-requires c κs =
-    let k = c .before .before .before .before .before .before .before in
-    let s = k .before .before .before .before in
-    let d = s .before .before .before .before in
+    let d = c .before .before .before .before .before .before .before .before .before .before .before .before .before .before .before in
     let z = no-fault d in
-    let ev = c .before .before .before .before .before .entry-of .ensures in
-    let an = c .before .before .before .before .entry-of2 .ensures in
-    let g = settled-decode _ _ (s .before .before .decode .ensures) ∙ s .state .given .1 in (
-      (
-        image-decode _ _ g .0,
-        ap length (k .copy .ensures ∙ k .before .before .section2 .ensures) ∙ memory-length (file d) z,
-      ),
+    let i = c .before .before .before .before .before .before .before .before .before .before .before .before .copy .ensures ∙ c .before .before .before .before .before .before .before .before .before .before .before .before .before .before .section .ensures in
+    let m = c .before .before .before .before .before .before .before .before .copy2 .ensures ∙ c .before .before .before .before .before .before .before .before .before .before .section2 .ensures in
+    let ev = c .before .before .before .before .before .before .entry-of .ensures in
+    let an = c .before .before .before .before .before .entry-of2 .ensures in (
+      record { image = ap isImage i ∙ image-good (file d) z; memory = ap length m ∙ memory-length (file d) z },
       (
         (inside (file d) z eventsKind (omega arith) (omega arith) _ ev, answers-inside (file d) z _ _ ev an),
         events-known (file d) z _ ev,
       ),
     )
 
-returns-4 : tie.Need-returns-4
-returns-4 c =
-    let k = c .before .before .before .before .before .before .before .before .before in
-    let s = k .before .before .before .before in
-    let d = s .before .before .before .before in
+returns-3 : tie.Need-returns-3
+returns-3 c =
+    let d = c .before .before .before .before .before .before .before .before .before .before .before .before .before .before .before .before .before .before in
     let z = no-fault d in
-    let ev = c .before .before .before .before .before .before .before .entry-of .ensures in
-    let an = c .before .before .before .before .before .before .entry-of2 .ensures in
-    let g = settled-decode _ _ (s .before .before .decode .ensures) ∙ s .state .given .1 in
-    let i = s .before .before .before .section .ensures in
-    let m = k .copy .ensures ∙ k .before .before .section2 .ensures in
+    let i = c .before .before .before .before .before .before .before .before .before .before .before .before .before .before .before .copy .ensures ∙ c .before .before .before .before .before .before .before .before .before .before .before .before .before .before .before .before .before .section .ensures in
+    let m = c .before .before .before .before .before .before .before .before .before .before .before .copy2 .ensures ∙ c .before .before .before .before .before .before .before .before .before .before .before .before .before .section2 .ensures in
+    let ev = c .before .before .before .before .before .before .before .before .before .entry-of .ensures in
+    let an = c .before .before .before .before .before .before .before .before .entry-of2 .ensures in
     ap figuresOf
-    (c .before .replay .ensures ∙ replay-done (file d) z _ _ ev an (d .before .before .if1 .left) _ _ i m _ g)
+    (c .before .before .replay .ensures ∙ replay-done (file d) z _ _ ev an (d .before .before .if1 .left) _ _ i m)
 
 pub judge-spec : {M : Type 1} → statement M
 judge-spec =
@@ -126,18 +117,17 @@ judge-spec =
     first-faulty-requires
     returns-2
     section-requires
-    decode-requires
-    enum-known-state
-    enum-told
-    returns-3
-    section-requires-2
     slice-aggregate-copy
     copy-requires
+    section-requires-2
+    slice-aggregate-copy-2
+    copy-requires-2
     entry-of-requires
     entry-of-requires-2
     slice-aggregate-replay
+    slice-aggregate-replay-2
     cast-replay
     cast-replay-2
     cast-replay-3
     replay-requires
-    returns-4)
+    returns-3)
