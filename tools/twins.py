@@ -9,7 +9,8 @@ twin is a text: lines of `#` first, among them
     # Refused by: CRATE, `LAW` (proofs/FILE.antt).
     # Prove: CRATE
 
-and then places, each `file:`, `old:` and `new:`, an `old` that stands there once; in both \n is the end of a line.
+a line `# Not tried yet.` where it was written and no prover saw it: it is passed over unless it is named, and counted; and then
+places, each `file:`, `old:` and `new:`, an `old` that stands there once; in both \n is the end of a line.
 
 They are tried on a copy of the crates outside the repository, over what is proved already of the crates that they stand on; what
 the prover said of each is in build/log/twins/NAME.txt.
@@ -40,6 +41,7 @@ class Twin:
         self.law = refused.group(1)
         self.laws = re.findall(r"`([\w-]+)`", refused.group(2))
         self.crates = prove.group(1).split()
+        self.is_tried = "\n# Not tried yet.\n" not in text
 
     def apply(self, folder):
         """Changes the crates of a copy; says what could not be changed."""
@@ -99,7 +101,9 @@ def tried(twin):
 
 def main(names):
     folder = os.path.join(TOP, "twins")
-    names = names or sorted(file[: -len(".twin")] for file in os.listdir(folder) if file.endswith(".twin"))
+    twins = [Twin(os.path.join(folder, file)) for file in sorted(os.listdir(folder)) if file.endswith(".twin")]
+    untried = [] if names else [twin.name for twin in twins if not twin.is_tried]
+    names = names or [twin.name for twin in twins if twin.is_tried]
     failed = 0
     for number, name in enumerate(names, 1):
         twin = Twin(os.path.join(folder, name + ".twin"))
@@ -108,6 +112,8 @@ def main(names):
         failed += fault is not None
         verdict = f"NOT REFUSED AS MEANT: {fault}" if fault else f"refused by {twin.law}"
         print(f"twin {number} of {len(names)}: {name}: {verdict} ({time.time() - began:.0f} s)", flush=True)
+    if untried:
+        print(f"twins: passed over, not tried yet: {', '.join(untried)}")
     print(f"twins: {len(names) - failed} passed, {failed} failed")
     return 1 if failed else 0
 
