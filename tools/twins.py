@@ -9,8 +9,8 @@ twin is a text: lines of `#` first, among them
     # Refused by: CRATE, `LAW` (proofs/FILE.antt).
     # Prove: CRATE
 
-a line `# Not tried yet.` where it was written and no prover saw it: it is passed over unless it is named, and counted; and then
-places, each `file:`, `old:` and `new:`, an `old` that stands there once; in both \n is the end of a line.
+a line `# Not tried yet.` where no prover has seen it with the code as it stands: it is passed over, and said to be, unless it is
+named; and then places, each `file:`, `old:` and `new:`, an `old` that stands there once; in both \n is the end of a line.
 
 They are tried on a copy of the crates outside the repository, over what is proved already of the crates that they stand on; what
 the prover said of each is in build/log/twins/NAME.txt.
