@@ -7,6 +7,8 @@
 // clock    a Clock by phase
 // event    one event under each supply
 // select   the slave byte of a part with select bits
+#![tactic(auto)]
+
 use wire::Phase;
 
 mod clock;
@@ -15,7 +17,7 @@ pub mod select;
 mod turns;
 
 // Which supplies are present: main power; backup alone; none.
-#[derive(Drop)]
+#[derive(Clone, Copy)]
 pub enum Power {
     On,
     Backup,
@@ -23,7 +25,7 @@ pub enum Power {
 }
 
 // A one-second tick, or an edge on one of the counter inputs.
-#[derive(Drop)]
+#[derive(Clone, Copy)]
 pub enum Beat {
     Second,
     Cnt1,
@@ -31,7 +33,7 @@ pub enum Beat {
 }
 
 // A part without its memory, which the caller lends, and without its companion.
-#[derive(Drop)]
+#[derive(Clone, Copy)]
 pub struct Bus {
     pub power: Power,
     pub phase: Phase,
@@ -39,14 +41,14 @@ pub struct Bus {
 }
 
 // What the companion replies: whether it acknowledges the byte, and the byte that it sends.
-#[derive(Drop)]
+#[derive(Clone, Copy)]
 pub struct Reply {
     pub good: bool,
     pub byte: u8,
 }
 
 // What an event leaves: the next bus, and the line.
-#[derive(Drop)]
+#[derive(Clone, Copy)]
 pub struct Went {
     pub bus: Bus,
     pub line: bool,

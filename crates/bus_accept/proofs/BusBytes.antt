@@ -3,10 +3,10 @@
 -- all greater ones at once.
 use Prim.Native.Nat.{ℕ, zero, suc, ◌/◌, ◌^◌, ◌≤◌, ◌<◌}
 use mathlib.Core.Path.{◌≡◌, refl, sym, ap, ◌∙◌}
-use mathlib.Core.Bool.{Bool, true, false, cond, not, ◌&&◌, ◌||◌, and-true, and_false, true≢false}
+use mathlib.Core.Bool.{Bool, true, false, cond, not, ◌&&◌, ◌||◌, and-true, and-false, true≢false}
 use native.Mathlib.Omega.{arith}
 use lib.Dec.{eqb, leb, ltb}
-use borrow.Author.Tests.{eqb-true, eqb-false, eq-eqb, ne_eqb, le-leb, lt-leb, lt-ltb, le-ltb, ltb_true, ltb-false}
+use borrow.Author.Tests.{eqb-true, eqb-false, eq-eqb, ne_eqb, le-leb, lt-leb, lt-ltb, le-ltb, ltb-true, ltb-false}
 use Rattle.wire.specs.Slave.{answers}
 use Rattle.wire.specs.Limits.{bits_fit, phase_within}
 use Rattle.wire.specs.declared.Named.{Named}
@@ -27,7 +27,7 @@ same_truth false false f g = refl
 -- only the bits of the clocks done are set: the byte shifted by them is 0
 quotient_none : (b n q : ℕ) → (b < n → q ≡ 0) → (q ≡ 0 → b < n) → eqb q 0 ≡ ltb b n
 quotient_none b n q f g =
-    same_truth _ _ (λ t. lt-ltb b n (g (eqb-true q 0 t))) (λ t. eq-eqb q 0 (f (ltb_true b n t)))
+    same_truth _ _ (λ t. lt-ltb b n (g (eqb-true q 0 t))) (λ t. eq-eqb q 0 (f (ltb-true b n t)))
 
 shifted_out : (k b : ℕ) → k < 8 → eqb (b / 2 ^ k) 0 ≡ ltb b (2 ^ k)
 shifted_out zero b h = quotient_none b 1 (b / 1) (λ l. omega arith) (λ l. omega arith)
@@ -46,7 +46,7 @@ shifted_out (suc (suc (suc (suc (suc (suc (suc (suc k)))))))) b h = absurd (omeg
 outgoing_fits : (k b : ℕ)
     → cond (ltb 8 k) false (not (eqb k 0) || eqb b 0) ≡ (leb k 8 && cond (eqb k 0) (eqb b 0) true)
 outgoing_fits k b = by_test (ltb 8 k)
-    (λ t. let h = ltb_true 8 k t in rw (t, lt-leb k 8 h))
+    (λ t. let h = ltb-true 8 k t in rw (t, lt-leb k 8 h))
     (λ t. let h = ltb-false 8 k t in rw (t, le-leb k 8 h) (either (eqb k 0) (eqb b 0))) where
       either : (x y : Bool) → (not x || y) ≡ cond x y true
       either true y = refl
@@ -77,8 +77,8 @@ supplied : (p : ℕ) (x s f : Bool) (q : Phase) → is_idle q ≡ false → x �
 unfolding power_of power_within
 supplied p x s f q i e = by_test (eqb p 0) (λ t. rw (eqb-true p 0 t) e) (λ t. rw t (without (eqb p 1) ((leb p 2 && s) && f))) where
   without : (t z : Bool) → false ≡ (z && power_within (cond t Backup Off) q)
-  without true z = rw (i, and_false z)
-  without false z = rw (i, and_false z)
+  without true z = rw (i, and-false z)
+  without false z = rw (i, and-false z)
 
 -- neither the number nor the clocks pass 8
 pub neither_above : (n k : ℕ) → (ltb 8 n || ltb 8 k) ≡ false → k ≤ 8
@@ -108,7 +108,7 @@ module _ (names : ℕ → Named) (legal : ℕ → Bool) where
   unfolding incoming_within bits_fit
   incoming_fits n k b l = by_test (ltb k 8)
       (λ t.
-      let h = ltb_true k 8 t in
+      let h = ltb-true k 8 t in
       rw (
         t,
         le-ltb 8 k (omega arith),
@@ -126,7 +126,7 @@ module _ (names : ℕ → Named) (legal : ℕ → Bool) where
   above : (p n k b f : ℕ) → 9 ≤ n → bus_tested names legal p n k b f ≡ bus_within names legal p n k b f
   unfolding bus_tested transfer_within bus_within stands_for
   above p n k b f l =
-      rw (ne_eqb n 0 (λ e. omega arith), lt-ltb 8 n (omega arith), none_above n k b f l, and_false (leb p 2))
+      rw (ne_eqb n 0 (λ e. omega arith), lt-ltb 8 n (omega arith), none_above n k b f l, and-false (leb p 2))
       (either (eqb p 0)) where
         either : (x : Bool) → cond x false false ≡ false
         either true = refl

@@ -1,6 +1,8 @@
 // SPDX-License-Identifier: Apache-2.0
 // What the test of every image has in common, by its bytes: the end, and bytes 25 to 29, over the select bits and the
 // companion's first and last address. Most bytes are tested four at a time, as a machine loads them.
+#![tactic(auto)]
+
 ghost use Rattle.std.specs.Prelude.{◌≡◌, [], ◌∷◌, ◌++◌, ◌≤◌, length, drop, replicate};
 ghost use Rattle.bus.specs.Select.{slave_names_for};
 ghost use Rattle.bus_limits.specs.Limits.{is_between};

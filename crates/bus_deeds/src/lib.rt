@@ -1,6 +1,8 @@
 // SPDX-License-Identifier: Apache-2.0
 // What an event asks of a part's companion. The rest of the event is the matter of `bus`, which is handed the reply; both
 // together are the event (law `Split.split`).
+#![tactic(auto)]
+
 ghost use Rattle.std.specs.Prelude.{◌≡◌, ◌≤◌, true, false};
 ghost use Rattle.wire.specs.Bits.{pushed, place_at};
 ghost use Rattle.bus.specs.Happening.{happening, edges};
@@ -15,7 +17,7 @@ use wire::{Phase, Side};
 
 // What an event asks of the companion: to take an address byte; a data byte; the byte at its address; to note that this byte
 // was read; a tick or edge; the loss of main power, of both supplies, the return of main power after backup.
-#[derive(Drop)]
+#[derive(Clone, Copy)]
 pub enum Deed {
     Nothing,
     Aim(u8),

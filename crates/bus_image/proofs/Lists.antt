@@ -2,7 +2,7 @@
 -- Bytes copied, cleared and compared, one byte more, and at the end; and that the comparison is equality.
 use Prim.Native.Nat.{ℕ, suc, ◌+◌, ◌≤◌, ◌<◌}
 use mathlib.Core.Path.{◌≡◌, refl, sym, ap, ◌∙◌}
-use mathlib.Core.Bool.{Bool, true, false, ◌&&◌, and-true, and_false, and_assoc, false≢true}
+use mathlib.Core.Bool.{Bool, true, false, ◌&&◌, and-true, and-false, and_assoc, false≢true}
 use mathlib.Core.List.{List, [], ◌∷◌, ◌++◌, append-nil}
 use native.Mathlib.Omega.{arith}
 use native.Mathlib.Numerals.{add-one}
@@ -47,7 +47,7 @@ unfolding same_bytes
 same_lengths [] [] h = absurd (h refl)
 same_lengths [] (y ∷ ys) h = refl
 same_lengths (x ∷ xs) [] h = refl
-same_lengths (x ∷ xs) (y ∷ ys) h = rw (same_lengths xs ys (λ e. h (ap suc e))) (and_false (eqb x y))
+same_lengths (x ∷ xs) (y ∷ ys) h = rw (same_lengths xs ys (λ e. h (ap suc e))) (and-false (eqb x y))
 
 pub same_self : (a : List ℕ) → same_bytes a a ≡ true
 unfolding same_bytes

@@ -5,6 +5,8 @@
 // layout  the supplies and the phase as numbers, and back
 // phases  these numbers
 // places  where they lie
+#![tactic(auto)]
+
 pub mod bytes;
 pub mod layout;
 pub mod phases;
@@ -12,7 +14,7 @@ pub mod places;
 
 // Where a transfer stands, as four bytes of an image: the phase's number, the clocks done, the byte, and the first
 // address byte of a memory write whose second is under way.
-#[derive(Drop)]
+#[derive(Clone, Copy)]
 pub struct Transfer {
     pub phase: u8,
     pub clocks: u8,

@@ -11,7 +11,7 @@ use mathlib.Core.List.{List}
 use native.Mathlib.Nat.{mod-lt}
 use lib.Dec.{ltb, leb, leb-zero}
 use lib.ListN.{length, length-set}
-use borrow.Author.Tests.{ltb_true, lt-ltb}
+use borrow.Author.Tests.{ltb-true, lt-ltb}
 use Rattle.wire.specs.Limits.{phase_within}
 use Rattle.wire.specs.Memory.{Cells, lent, is_protected, refused_byte, put_byte}
 use Rattle.wire.specs.Machine.{Line, line, step}
@@ -45,7 +45,7 @@ module _ (size select first last : ℕ) where
       let h = and_split _ (power_within u.power u.phase) e in
       let g = and_split (ltb u.address size) (phase_within (slave_names_for select) (is_between first last) u.phase)
       h.0 in
-      record { address = ltb_true u.address size g.0; phase = g.1; power = h.1 }
+      record { address = ltb-true u.address size g.0; phase = g.1; power = h.1 }
 
   pub of_bus_limits : (u : Bus) → BusLimits size (slave_names_for select) first last u → bus_within size select first last
       u ≡ true

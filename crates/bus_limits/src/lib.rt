@@ -1,6 +1,8 @@
 // SPDX-License-Identifier: Apache-2.0
 // The limits of all of a part but its companion: which buses are well-formed, over the size, the select bits, and the
 // companion's first and last address. Every event keeps them (`Keeps`).
+#![tactic(auto)]
+
 ghost use Rattle.std.specs.Prelude.{◌≡◌, ℕ};
 ghost use Rattle.wire.specs.Limits.{bits_fit, phase_within};
 ghost use Rattle.wire.specs.declared.Phase.TheVariants.{Slave, Pointer, Read};

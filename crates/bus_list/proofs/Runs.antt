@@ -11,7 +11,7 @@ use native.Mathlib.Numerals.{add-one}
 use native.Mathlib.Nat.{le_of_suc-le-suc, not-suc-le-zero}
 use lib.Dec.{leb}
 use lib.ListN.{length, take, drop, get_or, set, drop_of_length-le, take-append-drop}
-use lib.Seq.{take-suc-set, drop-cons, drop_set_lt, drop-drop}
+use lib.Seq.{take-suc-set, drop-cons, drop-set-lt, drop-drop}
 use borrow.Author.Tests.{leb-true}
 use Rattle.wire.proofs.Tests.{and_split}
 use Rattle.bus_list.specs.Run.{Stepped, Ended, following, run_of, RanThrough, all_known}
@@ -44,7 +44,7 @@ module _ (last : ℕ) where
 -- the answers past the events stay
 pub rest_kept : (a a₀ : List ℕ) (i v : ℕ) → drop i a ≡ drop i a₀ → drop (i + 1) (set a i v) ≡ drop (i + 1) a₀
 rest_kept a a₀ i v e =
-    drop_set_lt (i + 1) a i v (omega arith) ∙ sym (drop-drop 1 i a) ∙ ap (λ (l : List ℕ). drop 1 l) e ∙ drop-drop 1 i a₀
+    drop-set-lt (i + 1) a i v (omega arith) ∙ sym (drop-drop 1 i a) ∙ ap (λ (l : List ℕ). drop 1 l) e ∙ drop-drop 1 i a₀
 
 -- a state that is within what is asked of it, and a memory of its size
 pub record EndedOk {State : Type 0} (Ok : State → Type 0) (size : ℕ) (r : Ended State) : Type 0 where

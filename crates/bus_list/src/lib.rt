@@ -1,6 +1,8 @@
 // SPDX-License-Identifier: Apache-2.0
 // A list of events, of any part: what it comes to is said in specs/, as definitions over what one event does, and proofs/ has
 // the laws of lists, in one call or cut into several. The one function here is the test that every entry over a list makes first.
+#![tactic(auto)]
+
 ghost use Rattle.std.specs.Prelude.{◌≡◌};
 ghost use Rattle.bus_list.specs.Run.{all_known};
 

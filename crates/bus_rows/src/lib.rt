@@ -2,6 +2,8 @@
 // Rows of Clocks where a transfer lies, in the image of any part: bits that are only kept, bits that are only sent, Clocks that
 // nobody hears. They touch bytes 27 and 28 alone. A part hands over the bits of its answers beside the line, which stay through
 // a row. Each function returns the place after the last event that it did.
+#![tactic(auto)]
+
 ghost use Rattle.std.specs.Prelude.{◌≡◌, cond, ◌+◌, ◌<◌, ◌≤◌, length, get_or, set};
 ghost use Rattle.bus_image.specs.Places.{CLOCKS_AT, BYTE_AT};
 ghost use Rattle.bus_rows.specs.Row.{Received, Sent, Unheard};

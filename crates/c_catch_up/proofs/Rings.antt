@@ -7,7 +7,7 @@ use mathlib.Core.Path.{◌≡◌, refl, sym, ◌∙◌, ap, subst}
 use mathlib.Core.Bool.{Bool, true, false, ◌&&◌, ◌||◌}
 use native.Mathlib.Omega.{arith}
 use lib.Dec.{T, eqb, ltb, leb}
-use borrow.Author.Tests.{eqb-true, eqb-false, lt-ltb, le-leb, ltb_true, ltb-false, leb-true}
+use borrow.Author.Tests.{eqb-true, eqb-false, lt-ltb, le-leb, ltb-true, ltb-false, leb-true}
 use Rattle.bits.specs.Weight.{has}
 use Rattle.calendar.specs.Next.{is_valid}
 use Rattle.calendar.specs.Instant.{month_start, instant}
@@ -74,7 +74,7 @@ module _ (a : Alarm) (month from to : ℕ) (known : month < 2400) (least : month
         record {
           yes =
               λ p.
-              let l = ltb_true from (month_start (month + 1)) p in
+              let l = ltb-true from (month_start (month + 1)) p in
               record {
                 at = from;
                 from = omega arith;
@@ -103,7 +103,7 @@ module _ (a : Alarm) (month from to : ℕ) (known : month < 2400) (least : month
       one_yes p =
           let s = split (ltb from end && leb end (month_start (month + 1))) (leb end to) p in
           let t = split (ltb from end) (leb end (month_start (month + 1))) s.0 in
-          let l = ltb_true from end t.0 in
+          let l = ltb-true from end t.0 in
           let h = leb-true end (month_start (month + 1)) t.1 in
           let u = leb-true end to s.1 in
           let i = day_in (end - 1) (omega arith) (omega arith) in
@@ -148,7 +148,7 @@ pub none_more :
 none_more a first day to month before here d l h k r = by_day (ltb d day) refl
   where
     by_day : (b : Bool) → ltb d day ≡ b → ⊥
-    by_day true e = before d l (ltb_true d day e) k r
+    by_day true e = before d l (ltb-true d day e) k r
     by_day false e = here (record { at = d; from = ltb-false d day e; to = k; holds = (h, r) })
 
 -- a day from the end of one month to the start of another is in a month between them
@@ -156,7 +156,7 @@ between_from : (d month k : ℕ) → InMonth d k → month_start (month + 1) ≤
 between_from d month k m h = by_order (ltb month k) refl
   where
     by_order : (b : Bool) → ltb month k ≡ b → month < k
-    by_order true e = ltb_true month k e
+    by_order true e = ltb-true month k e
     by_order false e =
         let l = ltb-false month k e in
         absurd (omega (arith, month_start_before k (month + 1) (omega arith), m.to))
@@ -165,7 +165,7 @@ between_to : (d later k : ℕ) → InMonth d k → 0 < later → d < month_start
 between_to d later k m p h = by_order (ltb k later) refl
   where
     by_order : (b : Bool) → ltb k later ≡ b → k < later
-    by_order true e = ltb_true k later e
+    by_order true e = ltb-true k later e
     by_order false e =
         let l = ltb-false k later e in
         let s : later - 1 + 1 ≡ later = omega arith in
@@ -179,7 +179,7 @@ pub none_skipped :
 none_skipped a first day to month later before here s d l h k r = by_month (ltb d (month_start (month + 1))) refl
   where
     by_month : (b : Bool) → ltb d (month_start (month + 1)) ≡ b → ⊥
-    by_month true e = none_more a first day to month before here d l (ltb_true d (month_start (month + 1)) e) k r
+    by_month true e = none_more a first day to month before here d l (ltb-true d (month_start (month + 1)) e) k r
     by_month false e =
         s.none r.month (between_from d month r.month r.in_month (ltb-false d (month_start (month + 1)) e))
         (between_to d later r.month r.in_month (omega (arith, s.after)) h) r.name
@@ -193,7 +193,7 @@ pub none_later :
 none_later a first day to start later r before skipped d l h k = by_start (ltb d start) refl
   where
     by_start : (b : Bool) → ltb d start ≡ b → DayRings a d → ⊥
-    by_start true e = skipped d l (ltb_true d start e) k
+    by_start true e = skipped d l (ltb-true d start e) k
     by_start false e = before d l (r.one d h (ltb-false d start e)) k
 
 -- neither a date nor a month is asked for: the first day rings

@@ -6,6 +6,8 @@
 //   ticks.rt    what many ticks leave of 00h and of a valid core, by value
 //   bytes.rt    many ticks on an image: no byte is written but those that ticks change
 //   lib.rt      the entry
+#![tactic(auto)]
+
 ghost use Rattle.std.specs.Prelude.{◌≡◌};
 ghost use Rattle.c_catch_up.specs.CatchUp.{CatchUpSettled};
 

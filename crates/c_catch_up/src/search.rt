@@ -16,7 +16,7 @@ use fm3130_companion::Alarm;
 use fm3130_registers::map::MATCH;
 
 // Numbers that follow each other, the last not included: seconds, minutes, hours or days of the century.
-#[derive(Drop)]
+#[derive(Clone, Copy)]
 pub struct Stretch {
     pub from: u32,
     pub to: u32,

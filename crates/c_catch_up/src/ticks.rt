@@ -13,7 +13,7 @@ use fm3130_companion::Alarm;
 use fm3130_registers::control::told;
 
 // What many ticks leave of 00h and of the core.
-#[derive(Drop)]
+#[derive(Clone, Copy)]
 pub struct Left {
     pub control: u8,
     pub core: Calendar,

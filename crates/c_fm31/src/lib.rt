@@ -4,5 +4,7 @@
 //
 // run    the list run, and the fresh image
 // step   one event
+#![tactic(auto)]
+
 pub mod run;
 pub mod step;

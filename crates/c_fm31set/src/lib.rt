@@ -3,4 +3,6 @@
 // byte a device, the devices' images one after the other, and the memory of each in a buffer of its own.
 //
 // entry   whether a set can be made, and the list run, for C
+#![tactic(auto)]
+
 pub mod entry;

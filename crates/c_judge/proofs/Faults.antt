@@ -8,7 +8,7 @@ use native.Mathlib.Omega.{arith}
 use native.Mathlib.Nat.{not-suc-le-zero}
 use lib.Dec.{leb, ltb, eqb}
 use lib.ListN.{length}
-use borrow.Author.Tests.{eqb-true, eqb-false, eq-eqb, ne_eqb, leb-true, leb-false, le-leb, lt-leb, lt-ltb, le-ltb, ltb_true, ltb-false, not_true, not-false}
+use borrow.Author.Tests.{eqb-true, eqb-false, eq-eqb, ne_eqb, leb-true, leb-false, le-leb, lt-leb, lt-ltb, le-ltb, ltb-true, ltb-false, not-true, not-false}
 use Rattle.wire.proofs.Tests.{by_test, and_split, and_join}
 use Rattle.fm3130.specs.declared.State.{State}
 use Rattle.fm3130_image.specs.Image.{decode_of}
@@ -45,7 +45,7 @@ apart_overlap from size from₂ size₂ h =
     (λ p. by_test (ltb 0 size₂)
     (λ q. by_test (ltb from (from₂ + size₂))
     (λ r.
-    rw (p, q, r, le-ltb from₂ (from + size) (h (ltb_true 0 size p) (ltb_true 0 size₂ q) (ltb_true from (from₂ + size₂) r))))
+    rw (p, q, r, le-ltb from₂ (from + size) (h (ltb-true 0 size p) (ltb-true 0 size₂ q) (ltb-true from (from₂ + size₂) r))))
     (λ r. rw (p, q, r)))
     (λ q. rw (p, q)))
     (λ p. rw p)
@@ -128,7 +128,7 @@ unfolding clashes_below
 below f e zero h j l = absurd (not-suc-le-zero l)
 below f e (suc n) h j l =
     let o = or_split (clashes_below f e n) (clashes e (entry_at f n)) h in
-    by_test (ltb j n) (λ t. below f e n o.0 j (ltb_true j n t))
+    by_test (ltb j n) (λ t. below f e n o.0 j (ltb-true j n t))
     (λ t. let g = ltb-false j n t in let z : j ≡ n = omega arith in rw z (agrees e (entry_at f n) o.1))
 
 none_below : (f : List ℕ) (e : Entry) (n : ℕ) → ((j : ℕ) → j < n → Agrees e (entry_at f j)) → clashes_below f e n ≡ false
@@ -150,13 +150,13 @@ module _ (f : List ℕ) (n : ℕ) where
       let g = and_split _ (leb (e.from + e.size) (length f)) d.0 in
       let k = and_split (leb 1 e.kind) (leb e.kind 4) g.0 in
       let held = accepts (kind f n) (body f n) c.1 in
-      let others = below f e n (not_true _ a.1) in
+      let others = below f e n (not-true _ a.1) in
       record {
         uncut = leb-true (n * 12 + 12) (length f) b.0;
         least = leb-true 1 (kind f n) k.0;
         most = leb-true (kind f n) 4 k.1;
         inside = leb-true (offset f n + size f n) (length f) g.1;
-        clear = λ p. clear (not_true _ d.1) p;
+        clear = λ p. clear (not-true _ d.1) p;
         image = held.image;
         memory = held.memory;
         events = held.events;

@@ -3,12 +3,14 @@
 //
 // replay     the recorded events, in stretches, beside the recorded answers
 // judge      the verdict, its figures, and the entry for C
+#![tactic(auto)]
+
 pub mod judge;
 mod replay;
 
 // What is said of a capture: how many answers agree; the first that differs, with the recorded and the right byte; the
 // first faulty entry, 1 to 4; or that the file is too long.
-#[derive(Drop)]
+#[derive(Clone, Copy)]
 pub enum Verdict {
     Agree(usize),
     Differs {
@@ -21,7 +23,7 @@ pub enum Verdict {
 }
 
 // A verdict in figures: its number; the count, the place or the entry; and the two bytes of an answer that differs.
-#[derive(Drop)]
+#[derive(Clone, Copy)]
 pub struct Figures {
     pub number: u64,
     pub place: u64,
@@ -31,7 +33,7 @@ pub struct Figures {
 
 // What C is told: a verdict's number and place.
 #[repr(C)]
-#[derive(Drop)]
+#[derive(Clone, Copy)]
 pub struct Judgement {
     pub number: u64,
     pub place: u64,

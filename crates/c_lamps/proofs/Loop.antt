@@ -15,7 +15,7 @@ use Rattle.fm3130_image.specs.declared.Decoded.TheVariants.{Good, Bad}
 use Rattle.lamps.specs.Step.{report_of}
 use Rattle.lamps.specs.Statement.{proven_by}
 use Rattle.lamps_bytes.specs.Kept.{kept_of, bytes_of, is_kept}
-use Rattle.c_lamps.specs.Run.{refused, written, seen, outcome_of, RanWith}
+use Rattle.c_lamps.specs.Run.{refused, written, seen, outcome_of, RanInImage}
 use Rattle.lamps.specs.declared.Proving.{Proving}
 
 module _ (i m es a b : List ℕ) where
@@ -48,7 +48,7 @@ module _ (i m es a b : List ℕ) where
         all_written_lem k l = rw (eq-eqb (length m) memory_size h, d, q, k, le-leb (length es) (length a) l)
 
         pub all_done : (p : Proving) (i' m' a' b' : List ℕ) (r : ℕ) → all_known es ≡ true → length es ≤ length a
-            → RanWith s (kept_of b) m es a p i' m' a' → b' ≡ bytes_of p → r ≡ report_of p
+            → RanInImage s (kept_of b) m es a p i' m' a' → b' ≡ bytes_of p → r ≡ report_of p
             → seen (record { number = accepted; report = r }) i' m' a' b' ≡ outcome_of i m es a b
         all_done p i' m' a' b' r k l w f g =
             rw (f, g, w.ran.image, w.ran.memory, w.ran.answers, w.proving) (sym (all_written_lem k l))

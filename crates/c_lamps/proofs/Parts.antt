@@ -11,7 +11,8 @@ use lib.Seq.{length-take-le, take_all, take-append_seam, drop-append_seam, take-
 use Rattle.wire.proofs.Tests.{and_split}
 use Rattle.fm3130.specs.Event.{event_of}
 use Rattle.fm3130.specs.declared.State.{State}
-use Rattle.fm3130_image.specs.Image.{candidate}
+use Rattle.fm3130_image.specs.Image.{image_of, candidate}
+use Rattle.fm3130_image.proofs.Images.{candidate_of}
 use Rattle.fm3130_image.proofs.Accepts.{image_well, image_written}
 use Rattle.place_clock.specs.Code.Clocking.{Accepted}
 use Rattle.place_event.specs.Code.Answering as told
@@ -25,13 +26,13 @@ use Rattle.lamps.specs.Statement.{proven_by}
 use Rattle.lamps.specs.declared.Follower.{Follower}
 use Rattle.lamps.specs.declared.Proving.{Proving}
 use Rattle.c_lamps.specs.Row.{Clocks, Row}
-use Rattle.c_lamps.specs.Run.{RanWith}
+use Rattle.c_lamps.specs.Run.{RanWith, RanInImage}
 use Rattle.c_lamps.proofs.Pieces.{proven_append}
 
 -- one event
 pub one_ran : (s : State) (p : Proving) (m es a : List ℕ) (v : ℕ) (i' m' : List ℕ) (r : Proving) → length es ≡ 1 → length a ≡ 1
     → told.Answered (event_of s m (get_or es 0 0)) v i' m'
-    → r ≡ step_of p s (get_or es 0 0) (record { state = candidate i'; answer = v }) → RanWith s p m es a r i' m' (set a 0 v)
+    → r ≡ step_of p s (get_or es 0 0) (record { state = candidate i'; answer = v }) → RanInImage s p m es a r i' m' (set a 0 v)
 unfolding run_of
 one_ran s p m [] a v i' m' r h g w e = absurd (omega arith)
 one_ran s p m (x ∷ y ∷ es) a v i' m' r h g w e = absurd (omega arith)
@@ -98,7 +99,7 @@ proven_end : (p : Proving) (s : State) (m es : List ℕ) (i : ℕ) → length es
 proven_end p s m es i h = rw (drop_of_length-le es h)
 
 pub upto_all : (es a₀ : List ℕ) (p₀ : Proving) (b₀ m₀ : List ℕ) (i : ℕ) (b m a : List ℕ) (p : Proving) → length es ≤ i
-    → Upto es a₀ (candidate b₀) p₀ m₀ i b m a p → RanWith (candidate b₀) p₀ m₀ es a₀ p b m a
+    → Upto es a₀ (candidate b₀) p₀ m₀ i b m a p → RanInImage (candidate b₀) p₀ m₀ es a₀ p b m a
 upto_all es a₀ p₀ b₀ m₀ i b m a p n u =
     record {
       ran =
@@ -111,7 +112,7 @@ upto_all es a₀ p₀ b₀ m₀ i b m a p n u =
 module _ (es a₀ : List ℕ) (s₀ : State) (p₀ : Proving) (m₀ : List ℕ) (i : ℕ) (b m a : List ℕ) (p : Proving)
     (u : Upto es a₀ s₀ p₀ m₀ i b m a p) (n : ℕ) (h : i + n ≤ length es) (g : length es ≤ length a₀)
     (r : Proving) (b' m' ys : List ℕ)
-    (w : RanWith (candidate b) p m (take n (drop i es)) (take n (drop i a)) r b' m' ys) where
+    (w : RanInImage (candidate b) p m (take n (drop i es)) (take n (drop i a)) r b' m' ys) where
   abbrev part : List ℕ
   part = take n (drop i es)
 
@@ -199,3 +200,14 @@ module _ (es a₀ : List ℕ) (s₀ : State) (p₀ : Proving) (m₀ : List ℕ) 
 
   pub upto_next : (k : ℕ) → n ≡ k → Upto es a₀ s₀ p₀ m₀ (i + k) b' m' over r
   upto_next k e = rw (← e) upto_more
+
+-- the run in the image of a state is the run on that state
+pub ran_with : (s t : State) (p r : Proving) (m es a i' m' a' : List ℕ) → RanInImage (candidate (image_of s)) p m es a r i' m' a'
+    → t ≡ candidate i' → RanWith s p m es a (record { state = t; proving = r }) m' a'
+ran_with s t p r m es a i' m' a' w e =
+    let v : RanInImage s p m es a r i' m' a' = rw (candidate_of s) at w in
+    let u : t ≡ (run_of s m es).state = e ∙ (ap candidate v.ran.image ∙ candidate_of (run_of s m es).state) in
+    record {
+      ran = record { image = ap image_of u; memory = v.ran.memory; answers = v.ran.answers };
+      proving = v.proving;
+    }

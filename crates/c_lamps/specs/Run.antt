@@ -13,6 +13,7 @@ use Rattle.lamps.specs.Step.{report_of}
 use Rattle.lamps.specs.Statement.{proven_by}
 use Rattle.lamps_bytes.specs.Kept.{kept_of, bytes_of, is_kept}
 use Rattle.lamps.specs.declared.Proving.{Proving}
+use Rattle.c_lamps.specs.declared.Reached.{Reached}
 use Rattle.c_lamps.specs.declared.Shown.{Shown}
 
 -- All that a caller can see.
@@ -61,7 +62,12 @@ seen r i m a b =
 abbrev pub LampsSettled : List ℕ → List ℕ → List ℕ → List ℕ → List ℕ → Shown → List ℕ → List ℕ → List ℕ → List ℕ → Type 0
 LampsSettled i m es a b r i' m' a' b' = seen r i' m' a' b' ≡ outcome_of i m es a b
 
--- Auxiliary: what the loop returns and leaves.
-pub record RanWith (s : State) (p : Proving) (m es a : List ℕ) (r : Proving) (i' m' a' : List ℕ) : Type 0 where
+-- Auxiliary: what the loop over a state returns and leaves.
+pub record RanWith (s : State) (p : Proving) (m es a : List ℕ) (r : Reached) (m' a' : List ℕ) : Type 0 where
+  pub ran : RanThrough s m es a (image_of r.state) m' a'
+  pub proving : r.proving ≡ proven_by p s m es
+
+-- Auxiliary: the same in the image.
+pub record RanInImage (s : State) (p : Proving) (m es a : List ℕ) (r : Proving) (i' m' a' : List ℕ) : Type 0 where
   pub ran : RanThrough s m es a i' m' a'
   pub proving : r ≡ proven_by p s m es

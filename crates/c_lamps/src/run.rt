@@ -1,21 +1,24 @@
 // SPDX-License-Identifier: Apache-2.0
 // The list run with the record. The device lies in its image, and the list is done in parts.
 ghost use Rattle.std.specs.Prelude.{◌≡◌, true, ◌<◌, ◌≤◌, length};
+ghost use Rattle.fm3130.specs.Chip.{memory_size};
+ghost use Rattle.fm3130.specs.Limits.{well_formed};
 ghost use Rattle.fm3130_image.specs.Image.{candidate};
 ghost use Rattle.place_clock.specs.Code.Clocking.{Accepted};
 ghost use Rattle.fm3130_list.specs.Run.{all_known, RanThrough};
 ghost use Rattle.c_lamps.specs.Row.{Row, RowDone};
-ghost use Rattle.c_lamps.specs.Run.{RanWith, LampsSettled};
+ghost use Rattle.c_lamps.specs.Run.{RanWith, RanInImage, LampsSettled};
 
-use crate::Shown;
+use crate::{Reached, Shown};
 use crate::row::{after_row, part_length};
 use bus_image::bytes::pair;
 use bus_image::places::{ADDRESS_HIGH_AT, ADDRESS_LOW_AT, CLOCKS_AT, PHASE_AT};
 use c_run::run::run_events;
-use fm3130::Answered;
+use fm3130::{Answered, State};
 use fm3130_accept::is_image;
 use fm3130_image::MEMORY;
 use fm3130_image::read::state_at;
+use fm3130_image::write::image_of;
 use fm3130_list::all_known;
 use lamps::{Follower, Proving};
 use lamps_bytes::{is_kept, read, write};
@@ -56,7 +59,7 @@ fn one(
 ) -> Proving
     requires accepted { Accepted image.old memory.old }
     requires events_value { (all_known events.now ≡ true) × (length answers.old ≡ length events.now) × (length events.now ≡ 1) }
-    ensures { RanWith (candidate image.old) proving memory.old events.now
+    ensures { RanInImage (candidate image.old) proving memory.old events.now
         answers.old result image.new memory.new answers.new }
 {
     let before = state_at(image);
@@ -82,7 +85,7 @@ fn part(
     requires accepted { Accepted image.old memory.old }
     requires events_value { (all_known events.now ≡ true) × (length answers.old ≡ length events.now) × (0 < length events.now) }
     requires row { 1 < length events.now → Row (candidate image.old) proving.follower events.now }
-    ensures { RanWith (candidate image.old) proving memory.old events.now
+    ensures { RanInImage (candidate image.old) proving memory.old events.now
         answers.old result image.new memory.new answers.new }
 {
     if events.len() == 1 {
@@ -98,7 +101,7 @@ fn part(
 }
 
 // All events, in parts, the record stepped with the device.
-fn follow_events(
+fn follow_in_parts(
     image: &mut [u8],
     memory: &mut [u8],
     events: &[u8],
@@ -107,7 +110,7 @@ fn follow_events(
 ) -> Proving
     requires accepted { Accepted image.old memory.old }
     requires events_value { (all_known events.now ≡ true) × (length events.now ≤ length answers.old) }
-    ensures { RanWith (candidate image.old) proving memory.old events.now
+    ensures { RanInImage (candidate image.old) proving memory.old events.now
         answers.old result image.new memory.new answers.new }
 {
     let mut kept = proving;
@@ -121,6 +124,27 @@ fn follow_events(
         i = end;
     }
     kept
+}
+
+// The same by value: all events on a state, and the state they lead to.
+fn follow_events(
+    state: State,
+    proving: Proving,
+    memory: &mut [u8],
+    events: &[u8],
+    answers: &mut [u8],
+) -> Reached
+    requires state_value { (well_formed state ≡ true) × (length memory.old ≡ memory_size) }
+    requires events_value { (all_known events.now ≡ true) × (length events.now ≤ length answers.old) }
+    ensures { RanWith state proving memory.old events.now answers.old
+        result memory.new answers.new }
+{
+    let mut image = image_of(state);
+    let stepped = follow_in_parts(&mut image, memory, events, answers, proving);
+    Reached {
+        state: state_at(&image),
+        proving: stepped,
+    }
 }
 
 // What a refused call returns: all dark, so that a caller who looks at the report alone shows no lamp.
@@ -162,7 +186,7 @@ pub extern "C" fn fm3130_lamps(
         return refuse(SHORT_ANSWERS);
     }
     let proving = read(kept);
-    let stepped = follow_events(image, memory, events, answers, proving);
+    let stepped = follow_in_parts(image, memory, events, answers, proving);
     write(stepped, kept);
     Shown {
         number: ACCEPTED as u64,

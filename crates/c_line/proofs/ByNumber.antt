@@ -7,7 +7,7 @@ use mathlib.Core.List.{List}
 use native.Mathlib.Omega.{arith}
 use lib.Dec.{eqb, ltb}
 use lib.ListN.{get_or}
-use borrow.Author.Tests.{eqb-true, eqb-false, eq-eqb, ne_eqb, ltb_true, ltb-false, lt-ltb, le-ltb}
+use borrow.Author.Tests.{eqb-true, eqb-false, eq-eqb, ne_eqb, ltb-true, ltb-false, lt-ltb, le-ltb}
 use Rattle.wire.specs.Bits.{pushed}
 use Rattle.wire.specs.Slave.{slave_names, answers}
 use Rattle.wire.specs.Limits.{bits_fit, phase_within}
@@ -83,12 +83,12 @@ bits_fit_lem (suc (suc (suc (suc (suc (suc (suc n))))))) k b f z l h = absurd (o
 
 seven_bits : (k b : ℕ) → k ≡ 7 → bits_fit k b ≡ true → b < 128
 unfolding bits_fit
-seven_bits k b e h = ltb_true b 128 (rw e at h)
+seven_bits k b e h = ltb-true b 128 (rw e at h)
 
 -- twice a number is no odd one
 not_odd : (x y : ℕ) → x * 2 ≡ y * 2 + 1 → ⊥
 not_odd x y e = by_test (ltb x (suc y))
-    (λ t. let h = ltb_true x (suc y) t in omega arith)
+    (λ t. let h = ltb-true x (suc y) t in omega arith)
     (λ t. let h = ltb-false x (suc y) t in omega arith)
 
 -- the slave bytes in pairs

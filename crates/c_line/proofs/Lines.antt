@@ -8,7 +8,7 @@ use mathlib.Core.List.{List}
 use native.Mathlib.Omega.{arith}
 use lib.Dec.{eqb, leb, ltb}
 use lib.ListN.{get_or}
-use borrow.Author.Tests.{eq-eqb, ne_eqb, eqb-true, eqb-false, ltb_true, ltb-false}
+use borrow.Author.Tests.{eq-eqb, ne_eqb, eqb-true, eqb-false, ltb-true, ltb-false}
 use Rattle.bits.specs.Weight.{has}
 use Rattle.wire.specs.Bits.{pushed, place_at}
 use Rattle.wire.specs.Slave.{slave_names, answers, opened}
@@ -150,7 +150,7 @@ module _ {A : Type 0} (R : Receiver A) (P : Phase → A → Bool)
   unfolding taken_pulls
   receiving a k b = by_test (ltb k 7)
       (λ t.
-      let h = ltb_true k 7 t in
+      let h = ltb-true k 7 t in
       rw (
         t,
         received_inside R a k b false h,
@@ -204,7 +204,7 @@ module _ {A : Type 0} (S : Sender A) (P : Phase → A → Bool)
   unfolding sent_pulls more
   sending a k b = by_test (ltb 7 k)
       (λ t.
-      let h = ltb_true 7 k t in
+      let h = ltb-true 7 k t in
       let n : k ≡ 7 → ⊥ = λ e. omega arith in
       let l : 7 ≤ k = omega arith in
       rw (

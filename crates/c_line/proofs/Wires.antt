@@ -6,7 +6,7 @@ use mathlib.Core.Bool.{Bool, true, false, not, cond, true≢false, false≢true}
 use mathlib.Core.List.{List}
 use lib.Dec.{eqb, ltb}
 use native.Mathlib.Omega.{arith}
-use borrow.Author.Tests.{not_true}
+use borrow.Author.Tests.{not-true}
 use Rattle.wire.specs.Bits.{Place, first, within, last, ack, place_at}
 use Rattle.wire.specs.Clock.{Receiver, received, received_at, Sender, sent, sent_at}
 use Rattle.wire.specs.Kinds.{slave_byte, high_byte, low_byte, memory_byte, memory_read, pointer_byte, companion_byte, companion_read}
@@ -130,7 +130,7 @@ hidden_by : (w : Power) (p : Phase) (a : ℕ) (c : C.Companion) (m : List ℕ)
 unfolding pulls event_on happening lined
 hidden_by On p a c m h =
     let s : State = record { power = On; phase = p; address = a; companion = c } in
-    let l = not_true _ (sym (pulled_line (event_of s m 3)) ∙ h) in
+    let l = not-true _ (sym (pulled_line (event_of s m 3)) ∙ h) in
     ap done_of (clock_hidden fm3130 p (lent m a) c l)
 hidden_by Backup p a c m h =
     absurd (false≢true (sym (pulled_line (event_of (record { power = Backup; phase = p; address = a; companion = c }) m 3)) ∙ h))

@@ -2,6 +2,8 @@
 // What a controller asks before a clock rises: whether the device pulls the line of the next Clock low, and whether it
 // would pull the one after it. On real wires a device pulls its line before the clock, and the answer to a Clock comes
 // after it. No event is run: the phase and the bytes it serves say it. An entry of its own and an object of its own.
+#![tactic(auto)]
+
 ghost use Rattle.std.specs.Prelude.{◌≡◌, Bool, true, false, not, cond, ◌+◌, ◌*◌, ◌<◌, ◌≤◌, leb, length, get_or};
 ghost use Rattle.wire.specs.Bits.{pushed};
 ghost use Rattle.wire.specs.Slave.{slave_names};

@@ -5,13 +5,15 @@
 // numbers  the master's own numbers, and how many events its transactions have
 // events   the events of a write and of a read
 // told     what the answers to them say
+#![tactic(auto)]
+
 pub mod events;
 pub mod numbers;
 pub mod told;
 
 // What an entry returns: the number, and how many bytes at the front of the lent buffer it wrote.
 #[repr(C)]
-#[derive(Drop)]
+#[derive(Clone, Copy)]
 pub struct Filled {
     pub number: u64,
     pub count: u64,

@@ -3,4 +3,6 @@
 // beside the image, which the host keeps and lends; so the image's layout stays, and the list run knows nothing of masters.
 //
 // entries  the ask and the call, for a host program
+#![tactic(auto)]
+
 pub mod entries;

@@ -8,7 +8,7 @@ use native.Mathlib.Omega.{arith}
 use native.Mathlib.Numerals.{add-one}
 use lib.Dec.{eqb}
 use lib.ListN.{length, take, drop, get_or, set, length-set, length-append, drop_of_length-le}
-use lib.Seq.{take-suc-set, drop_set_lt, drop-cons, drop-drop}
+use lib.Seq.{take-suc-set, drop-set-lt, drop-cons, drop-drop}
 use borrow.Author.Tests.{eq-eqb, ne_eqb}
 use Rattle.wire.proofs.Tests.{by_test}
 use Rattle.c_mend.specs.Changes.{change_of, changes_from, changed, changed_count}
@@ -56,9 +56,9 @@ module _ (ch : List ℕ) (at n a b : ℕ) where
         place = refl;
         front = take_three g;
         rest =
-            drop_set_lt (at + 3) (set (set ch at n) (at + 1) a) (at + 2) b (omega arith)
-            ∙ drop_set_lt (at + 3) (set ch at n) (at + 1) a (omega arith)
-            ∙ drop_set_lt (at + 3) ch at n (omega arith);
+            drop-set-lt (at + 3) (set (set ch at n) (at + 1) a) (at + 2) b (omega arith)
+            ∙ drop-set-lt (at + 3) (set ch at n) (at + 1) a (omega arith)
+            ∙ drop-set-lt (at + 3) ch at n (omega arith);
         same =
             length-set (set (set ch at n) (at + 1) a) (at + 2) b ∙ length-set (set ch at n) (at + 1) a ∙ length-set ch at n;
       })

@@ -4,6 +4,8 @@
 //
 //   changes.rt  the list of what was changed, and its count
 //   lib.rt      the state put right, and the entry
+#![tactic(auto)]
+
 ghost use Rattle.std.specs.Prelude.{◌≡◌};
 ghost use Rattle.c_mend.specs.Mend.{mended_companion, mended_state, time_bytes, MendSettled};
 
@@ -22,7 +24,7 @@ pub const LISTED: usize = 3;
 
 // What the entry returns: the number of 01's table, and how many registers were changed.
 #[repr(C)]
-#[derive(Drop)]
+#[derive(Clone, Copy)]
 pub struct Mended {
     pub number: u64,
     pub count: u64,

@@ -7,7 +7,7 @@ use mathlib.Core.List.{List, [], ◌∷◌}
 use lib.Dec.{eqb, ltb}
 use lib.ListN.{length}
 use native.Mathlib.Omega.{arith}
-use borrow.Author.Tests.{ltb_true, ltb-false}
+use borrow.Author.Tests.{ltb-true, ltb-false}
 use Rattle.wire.proofs.Tests.{by_test}
 use Rattle.bits.specs.Weight.{has, only}
 use Rattle.fm3130_registers.specs.Map.{AF, AEN, CAL, ALSW}

@@ -1,6 +1,8 @@
 // SPDX-License-Identifier: Apache-2.0
 // The FM3130 on its two wires: what `pins_levels` finds due is done on image and memory, and the lines are asked. All that is
 // the part's own stands here.
+#![tactic(auto)]
+
 pub mod entries;
 
 ghost use Rattle.std.specs.Prelude.{◌≡◌, ◌++◌, length};

@@ -2,6 +2,8 @@
 // The list run for callers on machines where a struct of two words comes back another way than the module returns it:
 // its number alone. Under 0 all events are done, under any other none, so the count is known. An entry of its own and an
 // object of its own: the list run is compiled as if this were not there.
+#![tactic(auto)]
+
 ghost use Rattle.c_run_number.specs.Number.{NumberSettled};
 
 use c_run::run::fm3130_run;

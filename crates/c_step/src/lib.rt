@@ -2,6 +2,8 @@
 // One event for a host program: its answer byte, and the highest field of the calendar that it changed. An entry of its
 // own and an object of its own: a host that calls it links nothing of the list run, and the list run is compiled as if
 // this were not there.
+#![tactic(auto)]
+
 ghost use Rattle.std.specs.Prelude.{◌≡◌};
 ghost use Rattle.calendar.specs.Highest.{rolled_number};
 ghost use Rattle.c_step.specs.Single.{SingleSettled};

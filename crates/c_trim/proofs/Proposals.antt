@@ -7,7 +7,7 @@ use mathlib.Core.Path.{◌≡◌, refl, ap, subst, ◌∙◌}
 use mathlib.Core.Bool.{Bool, true, false, cond}
 use native.Mathlib.Omega.{arith}
 use native.Mathlib.Nat.{mul-le-mul_right, div-mul-le_self, lt-div-mul-add}
-use borrow.Author.Tests.{ltb_true, ltb-false, lt-ltb, le-ltb}
+use borrow.Author.Tests.{ltb-true, ltb-false, lt-ltb, le-ltb}
 use lib.Dec.{T, ltb}
 use lib.IntN.{ℤ, pos, negsuc}
 use lib.Signed.{lt_z}
@@ -47,7 +47,7 @@ rounded_beside : (t n : ℕ) → 0 < t → Beside t 0 n (rounded_of t n)
 unfolding rounded_of
 rounded_beside t n z =
     let q = (n + t / 2) / t in
-    rounded_beside_by t n q (ltb last_code q) (ltb_true last_code q) (div-mul-le_self (n + t / 2) t, lt-div-mul-add z)
+    rounded_beside_by t n q (ltb last_code q) (ltb-true last_code q) (div-mul-le_self (n + t / 2) t, lt-div-mul-add z)
 
 rounded_coded_by : (q : ℕ) (b : Bool) → (b ≡ false → q ≤ last_code) → cond b last_code q ≤ last_code
 rounded_coded_by q true h = omega arith
@@ -72,7 +72,7 @@ rounded_within t n h = rw (le-ltb last_code ((n + t / 2) / t) h)
 pub setting_of_negative : (e : ℤ) (d k : ℕ) → lt_z e (pos 0) ≡ true → d ≡ distance_of e → k ≡ rounded_of 512 d
     → ◌≡◌ {A = Setting} (record { sign = Plus; code = k }) (setting_for e)
 unfolding setting_for
-setting_of_negative (pos n) d k t p q = absurd (omega (arith, ltb_true n 0 t))
+setting_of_negative (pos n) d k t p q = absurd (omega (arith, ltb-true n 0 t))
 setting_of_negative (negsuc n) d k t p q =
     ap (λ (x : ℕ). record { sign = Plus; code = x }) (q ∙ ap (rounded_of 512) p)
 

@@ -6,6 +6,8 @@
 // checker   whether no setting leaves less; the verdict
 // proposer  our setting for an error, in closed form
 // entries   the three of them for C
+#![tactic(auto)]
+
 pub mod checker;
 pub mod entries;
 pub mod proposer;
@@ -15,7 +17,7 @@ mod residue;
 pub const LAST_CODE: u64 = 31;
 
 // Plus adds 512 cycles a step, minus takes 256 away.
-#[derive(Drop)]
+#[derive(Clone, Copy)]
 pub enum Sign {
     Plus,
     Minus,
@@ -23,14 +25,14 @@ pub enum Sign {
 
 // A sign, and a code that says how many steps. What a program proposes may have any code, so that it is judged whole
 // and not cut first.
-#[derive(Drop)]
+#[derive(Clone, Copy)]
 pub struct Setting {
     pub sign: Sign,
     pub code: u64,
 }
 
 // What the checker says of a setting: accepted; another one leaves a smaller distance from zero; or refused, and why.
-#[derive(Drop)]
+#[derive(Clone, Copy)]
 pub enum Verdict {
     Accepted,
     NotNearest,
@@ -39,14 +41,14 @@ pub enum Verdict {
 }
 
 // What the proposer says of an error: a setting, or refused since the error is out of range.
-#[derive(Drop)]
+#[derive(Clone, Copy)]
 pub enum Proposal {
     Proposed(Setting),
     Refused,
 }
 
 // What two numbers of a C program name: a setting, or none where the first is no sign.
-#[derive(Drop)]
+#[derive(Clone, Copy)]
 pub enum Named {
     Known(Setting),
     UnknownSign,

@@ -51,8 +51,8 @@ module _ (size count : ℕ) where
   unfoldable pub view_place : Bor (List ℕ) → Bor (List ℕ) → ℕ → ℕ → ℕ → ℕ × ℕ
   view_place i m selector start len =
       cond (eqb (view_number i.now m.now selector start len) accepted)
-      (cond (eqb selector 0) (shifted m.ptr start) (shifted i.ptr start))
-      m.ptr
+      (cond (eqb selector 0) (shifted m.ref_ptr start) (shifted i.ref_ptr start))
+      m.ref_ptr
 
   -- The contract of the viewer: what the part holds, and where it lies.
   pub record ViewSettled (i m : Bor (List ℕ)) (selector start len : ℕ) (r : Bor (List ℕ)) : Type 0 where

@@ -4,6 +4,8 @@
 // chosen        the viewer over the size of the memory and the number of registers
 // fm3130_view   the FM3130's
 // sizes         those of each size of the larger family
+#![tactic(auto)]
+
 mod chosen;
 pub mod fm3130_view;
 pub mod sizes;

@@ -3,13 +3,13 @@
 -- is one digit; the bytes of the months are twelve, which one test computes over all bytes up to 12h; and a date from 1 to
 -- the last date of a byte that is a month is a date of that month.
 use mathlib.Core.Path.{◌≡◌, refl, ap, sym, ◌∙◌}
-use mathlib.Core.Bool.{Bool, true, false, not, ◌&&◌, ◌||◌, and-true, and_false}
+use mathlib.Core.Bool.{Bool, true, false, not, ◌&&◌, ◌||◌, and-true, and-false}
 use mathlib.Core.List.{List, [], ◌∷◌}
 use Prim.Native.Nat.{ℕ, zero, suc, ◌+◌, ◌*◌, ◌/◌, ◌%◌, ◌≤◌, ◌<◌}
 use native.Mathlib.Omega.{arith}
 use lib.Dec.{T, ltb, leb, eqb}
 use lib.ListN.{replicate}
-use borrow.Author.Tests.{ltb_true, leb-true, leb-false, le-leb, lt-leb, lt-ltb, ne_eqb}
+use borrow.Author.Tests.{ltb-true, leb-true, leb-false, le-leb, lt-leb, lt-ltb, ne_eqb}
 use Rattle.calendar.specs.Field.{value, bcd, in_field}
 use Rattle.calendar.specs.Month.{month_length, pick}
 use Rattle.calendar.proofs.Table.{every_at}
@@ -33,7 +33,7 @@ digits_tested x top h = by (ltb (x % 16) 10) refl
   where
     by : (t : Bool) → ltb (x % 16) 10 ≡ t → (t && leb x top) ≡ (t && leb 0 (value x) && leb (value x) (value top))
     by true e =
-        let d = ltb_true (x % 16) 10 e in
+        let d = ltb-true (x % 16) 10 e in
         same_order x top (value x) (value top) (λ l. omega arith) (λ l. omega arith)
         ∙ ap (λ (t : Bool). t && leb (value x) (value top)) (sym (le-leb 0 (value x) (omega arith)))
     by false e = refl
@@ -58,7 +58,7 @@ day_tested (suc x) = by (leb (suc x) 7) refl
     by false e =
         let l = leb-false (suc x) 7 e in
         rw (e, lt-leb (value (suc x)) 7 (omega arith))
-        (and_false (not (eqb (suc x) 0)) ∙ sym (and_false (ltb (suc x % 16) 10 && leb 1 (value (suc x)))))
+        (and-false (not (eqb (suc x) 0)) ∙ sym (and-false (ltb (suc x % 16) 10 && leb 1 (value (suc x)))))
 
 -- February's last date by the digits of the year
 pub february_leap : (y : ℕ) → (y / 16 * 2 + y % 4) % 4 ≡ 0 → 0x29 ≡ bcd (month_length 2 (value y))
@@ -93,7 +93,7 @@ refused true b e t = absurd (rw e at t)
 
 above_months : (m : ℕ) → 18 < m → in_field 1 12 m ≡ false
 unfolding in_field
-above_months m h = rw (lt-leb (value m) 12 (omega arith)) (and_false (ltb (m % 16) 10 && leb 1 (value m)))
+above_months m h = rw (lt-leb (value m) 12 (omega arith)) (and-false (ltb (m % 16) 10 && leb 1 (value m)))
 
 up_to_months : (m : ℕ) → m ≤ 18 → T (not (in_field 1 12 m) || among m month_bytes)
 unfolding is_listed in_field
@@ -122,7 +122,7 @@ unfolding in_field
 no_date zero = refl
 no_date (suc x) =
     rw (ne_eqb (suc x) 0 (λ z. omega arith), lt-leb (value (suc x)) 0 (omega arith))
-    (and_false (ltb (suc x % 16) 10 && leb 0 (value (suc x))))
+    (and-false (ltb (suc x % 16) 10 && leb 0 (value (suc x))))
 
 -- a date from 1 to the last date of a month byte: both are tested by it
 module _ (m y : ℕ) where
@@ -140,7 +140,7 @@ module _ (m y : ℕ) where
         rw (value_bcd (month_length (value m) (value y)))
         (date_from_one x (month_length (value m) (value y))
         ∙ sym (and-true (in_field 1 (month_length (value m) (value y)) x)))
-    by_month false = no_date x ∙ sym (and_false (in_field 1 (month_length (value m) (value y)) x))
+    by_month false = no_date x ∙ sym (and-false (in_field 1 (month_length (value m) (value y)) x))
 
     pub date_tested :
         (not (eqb x 0) && in_field 0 (value (last_date (in_field 1 12 m))) x)

@@ -1,7 +1,7 @@
 -- SPDX-License-Identifier: Apache-2.0
 -- A valid calendar, as a test and as the limits of its seven fields: the two say the same.
 use mathlib.Core.Path.{◌≡◌, sym}
-use mathlib.Core.Bool.{Bool, true, false, ◌&&◌, and-true, and_false}
+use mathlib.Core.Bool.{Bool, true, false, ◌&&◌, and-true, and-false}
 use mathlib.Core.List.{List, [], ◌∷◌}
 use lib.Dec.{T}
 use Rattle.calendar.specs.Field.{in_field}
@@ -78,7 +78,7 @@ module _ (c : Calendar) where
           pub wrong_year : in_field 0 99 c.year ≡ false → false ≡ is_valid c
           unfolding is_valid
           wrong_year y =
-              rw (s, m, h, d, y) (sym (and_false (in_field 1 (length_of c) c.date && in_field 1 12 c.month)))
+              rw (s, m, h, d, y) (sym (and-false (in_field 1 (length_of c) c.date && in_field 1 12 c.month)))
 
           pub right_but_date : in_field 0 99 c.year ≡ true
               → (in_field 1 (length_of c) c.date && in_field 1 12 c.month) ≡ is_valid c

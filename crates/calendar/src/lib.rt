@@ -5,6 +5,8 @@
 //   months.rt   how many days a month has, and its last date
 //   carries.rt  the highest field that took a carry
 //   lib.rt      the calendar: the carry goes from field to field
+#![tactic(auto)]
+
 ghost use Rattle.std.specs.Prelude.{◌≡◌, T};
 ghost use Rattle.calendar.specs.Next.{length_of, is_valid, tick_of, next_of};
 ghost use Rattle.calendar.specs.Width.{is_within};
@@ -19,7 +21,7 @@ use crate::fields::{clipped_date, digits_to, is_day, mended_field, step, value};
 use crate::months::{last_date, month_length};
 
 // Date and time as registers 02h to 08h hold them: two decimal digits a byte, the day of the week plain.
-#[derive(Drop)]
+#[derive(Clone, Copy)]
 pub struct Calendar {
     pub seconds: u8,
     pub minutes: u8,
@@ -31,7 +33,7 @@ pub struct Calendar {
 }
 
 // The highest field that a tick changed. The day of the week is not asked.
-#[derive(Drop)]
+#[derive(Clone, Copy)]
 pub enum Rolled {
     Nothing,
     Seconds,
@@ -43,7 +45,7 @@ pub enum Rolled {
 }
 
 // A calendar after a tick, whether year 99 gave way to 00, and the highest field that changed.
-#[derive(Drop)]
+#[derive(Clone, Copy)]
 pub struct Advanced {
     pub calendar: Calendar,
     pub century: bool,

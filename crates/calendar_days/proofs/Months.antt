@@ -8,7 +8,7 @@ use Prim.Native.Nat.{ℕ, zero, suc, ◌+◌, ◌*◌, ◌-◌, ◌/◌, ◌%◌
 use native.Mathlib.Omega.{arith}
 use native.Mathlib.Nat.{suc-add}
 use lib.Dec.{T, ltb, leb, eqb, leb→le}
-use borrow.Author.Tests.{ltb_true, ltb-false, eqb-true, eqb-false}
+use borrow.Author.Tests.{ltb-true, ltb-false, eqb-true, eqb-false}
 use Rattle.calendar.specs.Month.{month_length}
 use Rattle.calendar.specs.Instant.{month_start}
 use Rattle.calendar.proofs.Tests.{and_left, and_right}
@@ -55,7 +55,7 @@ month_start_wrap k h = by_century (ltb k 1200) refl
   where
     by_century : (b : Bool) → ltb k 1200 ≡ b → month_start k ≡ month_start (k % 1200) + 36525 * (k / 1200)
     by_century true e =
-        let l = ltb_true k 1200 e in
+        let l = ltb-true k 1200 e in
         let r : k % 1200 ≡ k = omega arith in
         rw r (omega arith)
     by_century false e =
@@ -138,7 +138,7 @@ month_exists d h = by_share (ltb d (month_start (share_of d))) refl
   where
     by_share : (b : Bool) → ltb d (month_start (share_of d)) ≡ b → MonthOf d
     by_share true e =
-        record { index = share_of d - 1; in_month = before_share d h (ltb_true d (month_start (share_of d)) e) }
+        record { index = share_of d - 1; in_month = before_share d h (ltb-true d (month_start (share_of d)) e) }
     by_share false e = record { index = share_of d; in_month = in_share d h (ltb-false d (month_start (share_of d)) e) }
 
 -- a day is in one month alone
@@ -146,8 +146,8 @@ pub in_month_unique : (d j k : ℕ) → InMonth d j → InMonth d k → j ≡ k
 in_month_unique d j k m n = by_order (ltb j k) (ltb k j) refl refl
   where
     by_order : (s t : Bool) → ltb j k ≡ s → ltb k j ≡ t → j ≡ k
-    by_order true t p q = omega (arith, month_start_before j k (ltb_true j k p), m.to, n.from)
-    by_order false true p q = omega (arith, month_start_before k j (ltb_true k j q), n.to, m.from)
+    by_order true t p q = omega (arith, month_start_before j k (ltb-true j k p), m.to, n.from)
+    by_order false true p q = omega (arith, month_start_before k j (ltb-true k j q), n.to, m.from)
     by_order false false p q = omega (arith, ltb-false j k p, ltb-false k j q)
 
 -- a month's first day is in it

@@ -4,6 +4,8 @@
 //   starts.rt   the start of every month of the century, and the month that a day is in
 //   places.rt   a calendar's place in the century, and the calendar at a place
 //   lib.rt      the calendar that many ticks reach
+#![tactic(auto)]
+
 ghost use Rattle.std.specs.Prelude.{◌≡◌, ◌≤◌, T};
 ghost use Rattle.calendar.specs.Next.{is_valid};
 ghost use Rattle.calendar_days.specs.Code.Places.{moment_of};
@@ -19,7 +21,7 @@ pub mod starts;
 const CENTURY: u32 = 36525;
 
 // The calendar that many ticks reach, and whether year 99 gave way to 00 on the way.
-#[derive(Drop)]
+#[derive(Clone, Copy)]
 pub struct Reached {
     pub calendar: Calendar,
     pub century: bool,

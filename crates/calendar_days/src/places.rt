@@ -10,7 +10,7 @@ use crate::starts::{month_start, place_of};
 use calendar::Calendar;
 
 // Where a valid calendar stands, all counted from 0: its month and its day of the century, and the second of that day.
-#[derive(Drop)]
+#[derive(Clone, Copy)]
 pub struct Moment {
     pub month: u32,
     pub day: u32,

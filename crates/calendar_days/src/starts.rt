@@ -463,7 +463,7 @@ pub fn month_start(month: u32) -> u32
 }
 
 // A month of this century or the next, and how many days of it are before a day.
-#[derive(Drop)]
+#[derive(Clone, Copy)]
 pub struct Place {
     pub month: u32,
     pub past: u32,

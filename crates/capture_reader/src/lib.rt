@@ -1,18 +1,20 @@
 // SPDX-License-Identifier: Apache-2.0
 // A reader over a lent file. The work is in a covered function on the slice and the place; the thin functions over the
 // reader take it apart or put it together and call that one, and are proved by hand.
+#![tactic(auto)]
+
 ghost use Rattle.std.specs.Prelude.{◌≡◌};
 ghost use Rattle.capture_reader.specs.Reading.{taken_at};
 
 // A reader over a lent file: the file, and a place in it.
-#[derive(Drop)]
+#[derive(Clone, Copy)]
 pub struct Reader<'a> {
     pub file: &'a [u8],
     pub place: usize,
 }
 
 // What a reader takes: a byte, and the place after it.
-#[derive(Drop)]
+#[derive(Clone, Copy)]
 pub struct Taken {
     pub byte: u8,
     pub place: usize,

@@ -7,7 +7,7 @@ use mathlib.Core.List.{List}
 use native.Mathlib.Omega.{arith}
 use lib.Dec.{ltb, eqb}
 use lib.ListN.{length, take, drop}
-use borrow.Author.Tests.{ltb_true, ltb-false, eqb-true, eqb-false, eq-eqb}
+use borrow.Author.Tests.{ltb-true, ltb-false, eqb-true, eqb-false, eq-eqb}
 use Rattle.wire.proofs.Tests.{by_test}
 use Rattle.capture_table.specs.Table.{table_size, entry_at, body_of, is_accepted}
 use Rattle.capture_table.specs.Sections.{index_of, entry_of, section_of, first_faulty}
@@ -74,9 +74,9 @@ module _ (f : List ℕ) (s : Sound f) where
       let ke = e.kind in
       let ka = a.kind in
       by_test (ltb (index_of f 3) (index_of f 4))
-      (λ t. sym ((a.whole.apart (index_of f 3) (ltb_true _ _ t)).counts (omega arith) (omega arith)))
+      (λ t. sym ((a.whole.apart (index_of f 3) (ltb-true _ _ t)).counts (omega arith) (omega arith)))
       (λ t. by_test (ltb (index_of f 4) (index_of f 3))
-      (λ u. (e.whole.apart (index_of f 4) (ltb_true _ _ u)).counts (omega arith) (omega arith))
+      (λ u. (e.whole.apart (index_of f 4) (ltb-true _ _ u)).counts (omega arith) (omega arith))
       (λ u.
       let x = ltb-false (index_of f 3) (index_of f 4) t in
       let y = ltb-false (index_of f 4) (index_of f 3) u in

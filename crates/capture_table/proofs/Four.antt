@@ -6,7 +6,7 @@ use mathlib.Core.Path.{◌≡◌}
 use mathlib.Core.Bool.{cond}
 use native.Mathlib.Omega.{arith}
 use lib.Dec.{ltb, eqb}
-use borrow.Author.Tests.{ltb_true, ltb-false, eqb-true, eqb-false}
+use borrow.Author.Tests.{ltb-true, ltb-false, eqb-true, eqb-false}
 use Rattle.wire.proofs.Tests.{by_test}
 
 three : (a b c d : ℕ) → 1 ≤ a → a ≤ 3 → 1 ≤ b → b ≤ 3 → 1 ≤ c → c ≤ 3 → 1 ≤ d → d ≤ 3
@@ -20,12 +20,12 @@ without k x = cond (ltb k x) (x - 1) x
 module _ (k : ℕ) (k1 : 1 ≤ k) (k4 : k ≤ 4) where
   without_low : (x : ℕ) → 1 ≤ x → 1 ≤ without k x
   without_low x l = by_test (ltb k x)
-      (λ t. let h = ltb_true k x t in rw t (omega arith))
+      (λ t. let h = ltb-true k x t in rw t (omega arith))
       (λ t. rw t l)
 
   without_high : (x : ℕ) → x ≤ 4 → (x ≡ k → ⊥) → without k x ≤ 3
   without_high x l n = by_test (ltb k x)
-      (λ t. let h = ltb_true k x t in rw t (omega arith))
+      (λ t. let h = ltb-true k x t in rw t (omega arith))
       (λ t. let h = ltb-false k x t in rw t (omega arith))
 
   without_differ : (x y : ℕ) → (x ≡ k → ⊥) → (y ≡ k → ⊥) → (x ≡ y → ⊥) → without k x ≡ without k y → ⊥
@@ -33,19 +33,19 @@ module _ (k : ℕ) (k1 : 1 ≤ k) (k4 : k ≤ 4) where
       by_test (ltb k x)
       (λ t. by_test (ltb k y)
       (λ u.
-      let p = ltb_true k x t in
-      let q = ltb_true k y u in
+      let p = ltb-true k x t in
+      let q = ltb-true k y u in
       let w : x - 1 ≡ y - 1 = rw (t, u) at e in
       n (omega arith))
       (λ u.
-      let p = ltb_true k x t in
+      let p = ltb-true k x t in
       let q = ltb-false k y u in
       let w : x - 1 ≡ y = rw (t, u) at e in
       ny (omega arith)))
       (λ t. by_test (ltb k y)
       (λ u.
       let p = ltb-false k x t in
-      let q = ltb_true k y u in
+      let q = ltb-true k y u in
       let w : x ≡ y - 1 = rw (t, u) at e in
       nx (omega arith))
       (λ u. n (rw (t, u) at e)))

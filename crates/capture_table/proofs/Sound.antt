@@ -9,7 +9,7 @@ use native.Mathlib.Numerals.{add-one}
 use native.Mathlib.Nat.{not-suc-le-zero}
 use lib.Dec.{leb, ltb, eqb}
 use lib.ListN.{length}
-use borrow.Author.Tests.{leb-true, ltb_true, ltb-false, eqb-true, eqb-false, le-leb, not_true, not-false}
+use borrow.Author.Tests.{leb-true, ltb-true, ltb-false, eqb-true, eqb-false, le-leb, not-true, not-false}
 use Rattle.wire.proofs.Tests.{by_test, and_split}
 use Rattle.capture_table.specs.Table.{overlap, table_size, entry_size, entry_at, body_of, is_accepted, stands_in, uneven}
 use Rattle.capture_table.specs.Table.{clashes, clashes_below, is_sound}
@@ -71,7 +71,7 @@ below f e zero h i l = absurd (not-suc-le-zero l)
 below f e (suc n) h i l =
     let o = or_split (clashes_below f e n) (clashes e (entry_at f n)) h in
     by_test (ltb i n)
-    (λ t. below f e n o.0 i (ltb_true i n t))
+    (λ t. below f e n o.0 i (ltb-true i n t))
     (λ t.
     let g : n ≤ i = ltb-false i n t in
     let z : n ≡ i = omega arith in
@@ -94,7 +94,7 @@ whole_of f n h =
       apart = λ i l. apart_of _ _ (below f (entry_at f n) n (not_true' _ a.1) i l);
     } where
       not_true' : (t : Bool) → not t ≡ true → t ≡ false
-      not_true' = not_true
+      not_true' = not-true
 
 -- all four
 pub record Sound (f : List ℕ) : Type 0 where

@@ -4,6 +4,8 @@
 // entries    an entry of the table
 // faults     whether an entry is sound, and the first that is not
 // sections   the entry and the body of a kind, in a sound file
+#![tactic(auto)]
+
 pub mod entries;
 pub mod faults;
 pub mod sections;
@@ -18,7 +20,7 @@ pub const EVENTS_KIND: u32 = 3;
 pub const ANSWERS_KIND: u32 = 4;
 
 // An entry of the table: the kind of a section, where in the file it begins, and its length.
-#[derive(Drop)]
+#[derive(Clone, Copy)]
 pub struct Entry {
     pub kind: u32,
     pub from: u32,

@@ -4,6 +4,8 @@
 //
 // serve     what an event asks of the companion, done
 // step      one event byte, and the entry with its refusals
+#![tactic(auto)]
+
 use bus::{Bus, Reply};
 use fm31_counters::Counters;
 
@@ -20,35 +22,35 @@ pub const KB256: u16 = 32768;
 pub const LAST_EVENT: u8 = 9;
 
 // The two sizes.
-#[derive(Drop)]
+#[derive(Clone, Copy)]
 pub enum Size {
     Kb64,
     Kb256,
 }
 
 // A device without its memory, which the caller lends.
-#[derive(Drop)]
+#[derive(Clone, Copy)]
 pub struct State {
     pub bus: Bus,
     pub counters: Counters,
 }
 
 // The companion once it did what it was asked, and its reply.
-#[derive(Drop)]
+#[derive(Clone, Copy)]
 pub struct Served {
     pub counters: Counters,
     pub reply: Reply,
 }
 
 // What an answered event leaves: the next state, and the answer byte.
-#[derive(Drop)]
+#[derive(Clone, Copy)]
 pub struct Answered {
     pub state: State,
     pub answer: u8,
 }
 
 // What the entry for one event returns: the number of the table, the next state, and the answer byte.
-#[derive(Drop)]
+#[derive(Clone, Copy)]
 pub struct Stepped {
     pub number: u8,
     pub state: State,

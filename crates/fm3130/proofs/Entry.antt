@@ -7,7 +7,7 @@ use mathlib.Core.Bool.{true, false}
 use mathlib.Core.List.{List}
 use lib.Dec.{ltb}
 use lib.ListN.{length}
-use borrow.Author.Tests.{ltb_true, eq-eqb, ne_eqb, lt-ltb, le-ltb}
+use borrow.Author.Tests.{ltb-true, eq-eqb, ne_eqb, lt-ltb, le-ltb}
 use Rattle.wire.specs.Slave.{slave_names}
 use Rattle.wire.specs.Limits.{phase_within}
 use Rattle.wire.specs.declared.Phase.{Phase}
@@ -48,7 +48,7 @@ limits_of s e =
     let h = and_split _ (power_within s.power s.phase) e in
     let g = and_split _ (phase_within slave_names is_legal s.phase) h.0 in
     let f = and_split (ltb s.address memory_size) (is_within s.companion) g.0 in
-    record { address = ltb_true s.address memory_size f.0; companion = f.1; phase = g.1; power = h.1 }
+    record { address = ltb-true s.address memory_size f.0; companion = f.1; phase = g.1; power = h.1 }
 
 pub of_limits : (s : State) → Limits s → well_formed s ≡ true
 unfolding well_formed

@@ -6,6 +6,8 @@
 // answer   the answer byte
 // limits   which states are well-formed
 // step     one event byte, and the entry with its refusals
+#![tactic(auto)]
+
 use bus::{Power, Reply};
 use calendar::Rolled;
 use fm3130_companion::Companion;
@@ -20,7 +22,7 @@ mod step;
 pub const MEMORY_SIZE: u16 = 8192;
 
 // The device without its memory, which the caller lends. The memory address stands here, the companion's own inside it.
-#[derive(Drop)]
+#[derive(Clone, Copy)]
 pub struct State {
     pub power: Power,
     pub phase: Phase,
@@ -29,7 +31,7 @@ pub struct State {
 }
 
 // The companion once it did what it was asked, its reply, and the highest field of the calendar that changed.
-#[derive(Drop)]
+#[derive(Clone, Copy)]
 pub struct Served {
     pub companion: Companion,
     pub reply: Reply,
@@ -37,14 +39,14 @@ pub struct Served {
 }
 
 // What an answered event leaves: the next state, and the answer byte.
-#[derive(Drop)]
+#[derive(Clone, Copy)]
 pub struct Answered {
     pub state: State,
     pub answer: u8,
 }
 
 // What an answered event leaves and tells: the next state, the answer byte, and the field of the calendar that changed.
-#[derive(Drop)]
+#[derive(Clone, Copy)]
 pub struct Told {
     pub state: State,
     pub answer: u8,
@@ -53,7 +55,7 @@ pub struct Told {
 
 // What the entry for one event returns: the number of the table, the next state, the answer byte, and the highest field
 // of the calendar that changed.
-#[derive(Drop)]
+#[derive(Clone, Copy)]
 pub struct Stepped {
     pub number: u8,
     pub state: State,

@@ -3,12 +3,12 @@
 -- supplies and some phase, and the candidate is well-formed; what else it holds the candidate has by its place.
 use Prim.Native.Nat.{ℕ, zero, suc, ◌+◌, ◌*◌, ◌/◌, ◌%◌, ◌≤◌, ◌<◌}
 use mathlib.Core.Path.{◌≡◌, refl, sym, ap, ◌∙◌}
-use mathlib.Core.Bool.{Bool, true, false, ◌&&◌, and-true, and_false, and_assoc, false≢true}
+use mathlib.Core.Bool.{Bool, true, false, ◌&&◌, and-true, and-false, and_assoc, false≢true}
 use mathlib.Core.List.{List, [], ◌++◌}
 use native.Mathlib.Omega.{arith}
 use lib.Dec.{eqb, leb, ltb}
 use lib.ListN.{length, drop, get_or, drop_of_length-le}
-use borrow.Author.Tests.{eqb-true, eq-eqb, ne_eqb, leb-true, lt-leb, lt-ltb, ltb_true}
+use borrow.Author.Tests.{eqb-true, eq-eqb, ne_eqb, leb-true, lt-leb, lt-ltb, ltb-true}
 use Rattle.calendar.specs.Width as width
 use Rattle.wire.specs.Slave.{slave_names}
 use Rattle.wire.specs.Limits.{phase_within}
@@ -109,8 +109,8 @@ module _ (i : List ℕ) (b : (k : ℕ) → get_or i k 0 < 256) where
 
   address_within : ltb (get_or i 23 0) 0x20 ≡ ltb (get_or i 23 0 * 256 + get_or i 24 0) memory_size
   address_within = let l = b 24 in same_truth _ _
-      (λ t. let n = ltb_true (get_or i 23 0) 0x20 t in lt-ltb (get_or i 23 0 * 256 + get_or i 24 0) memory_size (omega arith))
-      (λ t. let n = ltb_true (get_or i 23 0 * 256 + get_or i 24 0) memory_size t in lt-ltb (get_or i 23 0) 0x20 (omega arith))
+      (λ t. let n = ltb-true (get_or i 23 0) 0x20 t in lt-ltb (get_or i 23 0 * 256 + get_or i 24 0) memory_size (omega arith))
+      (λ t. let n = ltb-true (get_or i 23 0 * 256 + get_or i 24 0) memory_size t in lt-ltb (get_or i 23 0) 0x20 (omega arith))
 
   -- what the code tests of bytes 0 to 24
   pub places_tested :
@@ -238,7 +238,7 @@ image_by_parts i l b = same_truth _ _
 
 regroup : (e s p f w : Bool) → (e && (p && ((s && f) && w))) ≡ ((e && s) && ((p && f) && w))
 regroup false s p f w = refl
-regroup true false p f w = and_false p
+regroup true false p f w = and-false p
 regroup true true p f w = sym (and_assoc p f w)
 
 limits_by_places : (i : List ℕ)

@@ -2,6 +2,8 @@
 // Whether an image is accepted, by tests of its bytes: no state is made of it, and nothing is written again to be
 // compared. Most bytes are tested four at a time, as a machine loads them. What is read of an accepted image is the one
 // state that could have written it.
+#![tactic(auto)]
+
 ghost use Rattle.std.specs.Prelude.{◌≡◌, ◌≤◌, length, drop};
 ghost use Rattle.bus_image.specs.Bytes.{same_bytes};
 ghost use Rattle.fm3130_image.specs.Image.{image_size};

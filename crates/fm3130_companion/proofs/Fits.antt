@@ -10,7 +10,7 @@ use native.Mathlib.Nat.{mod-lt}
 use native.Mathlib.Omega.{arith}
 use lib.Dec.{T, ltb, leb, eqb, lit<, lit≤}
 use lib.ListN.{get_or}
-use borrow.Author.Tests.{lt-ltb, ltb_true, eqb-true, eqb-false}
+use borrow.Author.Tests.{lt-ltb, ltb-true, eqb-true, eqb-false}
 use Rattle.bits.proofs.Cases.{Below, none, ◌then◌, below}
 use Rattle.calendar.proofs.Width.{Within, within_facts, within_test}
 use Rattle.fm3130_companion.specs.declared.Registers.{Registers}
@@ -82,12 +82,12 @@ fits_within r f =
       time =
           within_test r.time
           (record {
-            seconds = ltb_true _ _ (f 2 (lit< tt));
-            minutes = ltb_true _ _ (f 3 (lit< tt));
-            hours = ltb_true _ _ (f 4 (lit< tt));
-            day = ltb_true _ _ (f 5 (lit< tt));
-            date = ltb_true _ _ (f 6 (lit< tt));
-            month = ltb_true _ _ (f 7 (lit< tt));
+            seconds = ltb-true _ _ (f 2 (lit< tt));
+            minutes = ltb-true _ _ (f 3 (lit< tt));
+            hours = ltb-true _ _ (f 4 (lit< tt));
+            day = ltb-true _ _ (f 5 (lit< tt));
+            date = ltb-true _ _ (f 6 (lit< tt));
+            month = ltb-true _ _ (f 7 (lit< tt));
           });
       hours = f 11 (lit< tt);
       date = f 12 (lit< tt);

@@ -11,6 +11,8 @@
 //   power.rt     power lost, both supplies gone, power returned
 //   limits.rt    the limits of a state
 //   part.rt      the bytes of a transfer: an address, a data byte, a read and its end
+#![tactic(auto)]
+
 use calendar::{Calendar, Rolled};
 
 mod access;
@@ -23,7 +25,7 @@ mod tick;
 mod write;
 
 // Registers 09h to 0Dh. Bit 7 of each is Match: 1 leaves the field out of the comparison.
-#[derive(Drop)]
+#[derive(Clone, Copy)]
 pub struct Alarm {
     pub seconds: u8,
     pub minutes: u8,
@@ -33,7 +35,7 @@ pub struct Alarm {
 }
 
 // Registers 00h to 0Eh: 00h, 01h, 02h to 08h, 09h to 0Dh, 0Eh.
-#[derive(Drop)]
+#[derive(Clone, Copy)]
 pub struct Registers {
     pub control: u8,
     pub trim: u8,
@@ -43,7 +45,7 @@ pub struct Registers {
 }
 
 // The registers, the calendar that counts the seconds, and the companion's own address.
-#[derive(Drop)]
+#[derive(Clone, Copy)]
 pub struct Companion {
     pub registers: Registers,
     pub core: Calendar,
@@ -51,14 +53,14 @@ pub struct Companion {
 }
 
 // What taking a byte leaves, and whether the byte is acknowledged.
-#[derive(Drop)]
+#[derive(Clone, Copy)]
 pub struct Taken {
     pub companion: Companion,
     pub acknowledged: bool,
 }
 
 // What a tick leaves, and the highest field of the core that it changed.
-#[derive(Drop)]
+#[derive(Clone, Copy)]
 pub struct Ticked {
     pub companion: Companion,
     pub rolled: Rolled,

@@ -4,7 +4,7 @@
 -- writes, and what is stored over an accepted image, is compared by computing.
 use Prim.Native.Nat.{ℕ, zero, suc, ◌+◌, ◌≤◌, ◌<◌}
 use mathlib.Core.Path.{◌≡◌, refl, sym, ap, ◌∙◌}
-use mathlib.Core.Bool.{true, false, and_false}
+use mathlib.Core.Bool.{true, false, and-false}
 use mathlib.Core.List.{List, [], ◌∷◌, ◌++◌}
 use native.Mathlib.Omega.{arith}
 use lib.ListN.{length, drop, get_or}
@@ -45,7 +45,7 @@ pub image_not_long : (i : List ℕ) → (length i ≡ image_size → ⊥) → is
 unfolding is_image
 image_not_long i h =
     rw (same_lengths (image_of (candidate i)) i (λ e. h (sym e ∙ image_length (candidate i))))
-    (and_false (well_formed (candidate i)))
+    (and-false (well_formed (candidate i)))
 
 -- what an accepted image is
 module _ (i : List ℕ) (h : is_image i ≡ true) where

@@ -4,6 +4,8 @@
 // places  where an image holds what
 // read    the state in an image, and its parts
 // write   a state's image, whole or over another's
+#![tactic(auto)]
+
 use fm3130::{MEMORY_SIZE, State};
 
 pub mod places;
@@ -17,7 +19,7 @@ pub const LENGTH: usize = 64;
 pub const MEMORY: usize = MEMORY_SIZE as usize;
 
 // What reading an image gives: the well-formed state that writes it, or none.
-#[derive(Drop)]
+#[derive(Clone, Copy)]
 pub enum Decoded {
     Good(State),
     Bad,

@@ -7,6 +7,8 @@
 //   control.rt   00h, and what a write of it does to the core and to 02h to 08h
 //   alarm.rt     a field of the alarm beside the calendar's
 //   pin.rt       the ACS pin
+#![tactic(auto)]
+
 pub mod alarm;
 pub mod control;
 pub mod map;

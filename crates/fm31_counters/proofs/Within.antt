@@ -1,7 +1,7 @@
 -- SPDX-License-Identifier: Apache-2.0
 -- Whatever is done to the companion keeps it within its limits. At each of the sixteen places what a register keeps of
 -- a byte fits it.
-use Rattle.std.proofs.Common.{◌≡◌, ℕ, ◌+◌, ◌-◌, ◌/◌, ◌%◌, ◌<◌, ◌≤◌, Bool, true, false, cond, ◌&&◌, ◌||◌, eqb, ltb, leb, set, refl, subst, arith, ltb_true, lt-ltb, eq-eqb, eqb-true, le-leb, leb-true}
+use Rattle.std.proofs.Common.{◌≡◌, ℕ, ◌+◌, ◌-◌, ◌/◌, ◌%◌, ◌<◌, ◌≤◌, Bool, true, false, cond, ◌&&◌, ◌||◌, eqb, ltb, leb, set, refl, subst, arith, ltb-true, lt-ltb, eq-eqb, eqb-true, le-leb, leb-true}
 use mathlib.Core.Bool.{false≢true}
 use borrow.Author.Tests.{eqb-false}
 use Rattle.bits.specs.Weight.{has, only}
@@ -37,9 +37,9 @@ fits_of r e =
     let h = and_split (eqb (r.flags / 16 % 2) 0) (ltb (r.watchdog % 128) 32) g.0 in
     record {
       flags = eqb-true _ _ h.0;
-      watchdog = ltb_true _ _ h.1;
-      control = ltb_true _ _ g.1;
-      counting = ltb_true _ _ f.1;
+      watchdog = ltb-true _ _ h.1;
+      control = ltb-true _ _ g.1;
+      counting = ltb-true _ _ f.1;
     }
 
 pub of_fits : (r : Registers) → Fits r → registers_within r ≡ true

@@ -12,6 +12,8 @@
 //   power.rt    power lost, both supplies gone, power returned
 //   limits.rt   the limits of a state
 //   part.rt     the bytes of a transfer: an address, a data byte, a read and its end; the protection
+#![tactic(auto)]
+
 mod access;
 mod change;
 mod edge;
@@ -22,28 +24,28 @@ mod power;
 mod write;
 
 // The two counter inputs.
-#[derive(Drop)]
+#[derive(Clone, Copy)]
 pub enum Input {
     Cnt1,
     Cnt2,
 }
 
 // A counter's two bytes.
-#[derive(Drop)]
+#[derive(Clone, Copy)]
 pub struct Count {
     pub low: u8,
     pub high: u8,
 }
 
 // Registers 0Dh to 10h: counter 1, counter 2.
-#[derive(Drop)]
+#[derive(Clone, Copy)]
 pub struct Counts {
     pub one: Count,
     pub two: Count,
 }
 
 // Registers 11h to 18h.
-#[derive(Drop)]
+#[derive(Clone, Copy)]
 pub struct Serial {
     pub sn0: u8,
     pub sn1: u8,
@@ -56,7 +58,7 @@ pub struct Serial {
 }
 
 // Registers 09h to 18h: 09h, 0Ah, 0Bh, 0Ch, 0Dh to 10h, 11h to 18h.
-#[derive(Drop)]
+#[derive(Clone, Copy)]
 pub struct Registers {
     pub flags: u8,
     pub watchdog: u8,
@@ -67,7 +69,7 @@ pub struct Registers {
 }
 
 // The registers, the counters as RC last found them, and the companion's own address.
-#[derive(Drop)]
+#[derive(Clone, Copy)]
 pub struct Counters {
     pub registers: Registers,
     pub snapshot: Counts,
@@ -75,7 +77,7 @@ pub struct Counters {
 }
 
 // What taking a byte leaves, and whether the byte is acknowledged.
-#[derive(Drop)]
+#[derive(Clone, Copy)]
 pub struct Taken {
     pub counters: Counters,
     pub acknowledged: bool,

@@ -3,7 +3,7 @@
 -- phase, and the limits of the candidate; what else it holds the candidate has by its place.
 use Prim.Native.Nat.{ℕ, ◌+◌, ◌*◌, ◌/◌, ◌%◌, ◌≤◌, ◌<◌}
 use mathlib.Core.Path.{◌≡◌, refl, sym, ap, ◌∙◌}
-use mathlib.Core.Bool.{Bool, true, false, ◌&&◌, and-true, and_false, and_assoc}
+use mathlib.Core.Bool.{Bool, true, false, ◌&&◌, and-true, and-false, and_assoc}
 use mathlib.Core.List.{List, ◌++◌}
 use native.Mathlib.Omega.{arith}
 use lib.Dec.{eqb, leb, ltb}
@@ -83,10 +83,10 @@ module _ (size select : ℕ) where
 
   regroup : (e s a f w c : Bool) → (e && ((a && c) && ((s && f) && w))) ≡ ((e && s) && (((a && f) && w) && c))
   regroup false s a f w c = refl
-  regroup true false a f w c = and_false (a && c)
+  regroup true false a f w c = and-false (a && c)
   regroup true true false f w c = refl
   regroup true true true f w true = sym (and-true (f && w))
-  regroup true true true f w false = sym (and_false (f && w))
+  regroup true true true f w false = sym (and-false (f && w))
 
   module _ (i : List ℕ) (l : length i ≡ image_size) (b : (k : ℕ) → get_or i k 0 < 256) where
     abbrev tested : Bool
@@ -127,7 +127,7 @@ module _ (size select : ℕ) where
   unfolding is_image
   image_not_long i h =
       rw (same_lengths (image_of (candidate i)) i (λ e. h (sym e ∙ image_length (candidate i))))
-      (and_false (well_formed size select (candidate i)))
+      (and-false (well_formed size select (candidate i)))
 
   -- what an accepted image is
   module _ (i : List ℕ) (h : is_image size select i ≡ true) where

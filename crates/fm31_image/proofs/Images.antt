@@ -4,7 +4,7 @@
 -- compared.
 use Prim.Native.Nat.{ℕ, ◌<◌}
 use mathlib.Core.Path.{◌≡◌, refl, sym, ap, ◌∙◌}
-use mathlib.Core.Bool.{true, false, ◌&&◌, and_false}
+use mathlib.Core.Bool.{true, false, ◌&&◌, and-false}
 use mathlib.Core.List.{List}
 use native.Mathlib.Omega.{arith}
 use lib.ListN.{length, take}
@@ -49,7 +49,7 @@ module _ (size select : ℕ) where
 
     pub decode_differs : same_bytes (image_of s) i ≡ false → decode_of size select i ≡ Bad
     unfolding decode_of
-    decode_differs w = rw (← e, w, and_false (well_formed size select s))
+    decode_differs w = rw (← e, w, and-false (well_formed size select s))
 
   pub decode_length : (i : List ℕ) → (length i ≡ image_size → ⊥) → decode_of size select i ≡ Bad
   decode_length i h =

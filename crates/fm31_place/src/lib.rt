@@ -4,5 +4,7 @@
 //
 // room    the companion does what it is asked, in its bytes
 // event   one event, with its answer byte
+#![tactic(auto)]
+
 pub mod event;
 mod room;

@@ -1,6 +1,8 @@
 // SPDX-License-Identifier: Apache-2.0
 // What of a list of events is done next on a device of the larger family, in its image: a row of Clocks where there is one, or
 // one event; and a whole list.
+#![tactic(auto)]
+
 ghost use Rattle.std.specs.Prelude.{◌≡◌, true, ◌/◌, ◌<◌, ◌≤◌, length, get_or};
 ghost use Rattle.bus.specs.Select.{lone};
 ghost use Rattle.fm31_run.specs.Code.Run.{all_known};

@@ -11,8 +11,8 @@ use native.Mathlib.Numerals.{add-one}
 use native.Mathlib.Nat.{le_of_suc-le-suc, not-suc-le-zero}
 use lib.Dec.{ltb, leb}
 use lib.ListN.{length, take, drop, get_or, set, drop_of_length-le, take-append-drop}
-use lib.Seq.{take-suc-set, drop-cons, drop_set_lt}
-use borrow.Author.Tests.{eq-eqb, ltb_true, ltb-false, leb-true}
+use lib.Seq.{take-suc-set, drop-cons, drop-set-lt}
+use borrow.Author.Tests.{eq-eqb, ltb-true, ltb-false, leb-true}
 use Rattle.bits.proofs.Cases.{by_cond}
 use Rattle.wire.proofs.Tests.{and_split, by_test}
 use Rattle.bus.specs.Select.{lone}
@@ -30,7 +30,7 @@ use Rattle.fm31_run.specs.Code.Run.{RanThrough, all_known}
 use Rattle.fm31_run.specs.declared.Seat.{Seat}
 
 own_test : (b : Bool) (e : ℕ) → ltb e 8 ≡ b → cond b e (8 + e % 2) ≤ last_event
-own_test true e h = let l = ltb_true e 8 h in omega arith
+own_test true e h = let l = ltb-true e 8 h in omega arith
 own_test false e h = omega arith
 
 pub own_small : (e : ℕ) → own_byte e ≤ last_event
@@ -85,7 +85,7 @@ module _ (z : Seat) where
   seat_more s m es a i he ha =
       let d = heard_in z s m (get_or es i 0) in
       let v = joined_at z.place (get_or a i 0) d.answer in
-      rw (drop_set_lt (i + 1) a i v (omega arith), add-one, take-suc-set, drop-cons es i 0, drop-cons a i 0)
+      rw (drop-set-lt (i + 1) a i v (omega arith), add-one, take-suc-set, drop-cons es i 0, drop-cons a i 0)
       (simp append_assoc)
 
   -- the loop's end

@@ -9,21 +9,13 @@ use lib.ListN.{length, take, drop, get_or, set, length-set}
 use Rattle.fm31.specs.Limits.{well_formed}
 use Rattle.fm31.specs.Run.{following}
 use Rattle.fm31.specs.declared.State.{State}
-use Rattle.fm31.specs.contracts.State as T
-use Rattle.fm31.proofs.State.TheLaws as T'
-use Rattle.law_lending.proofs.Local as local
-use Rattle.fm31_run.specs.Seat.{ran_in, InPlace, RanAt}
+use Rattle.fm31_run.specs.Seat.{ran_in, HeardInPlace, RanAt}
 use Rattle.fm31_run.specs.declared.Seat.{Seat}
 use Rattle.fm31_run.proofs.Seats.{over, heard_well, heard_sized, seat_more, seat_done}
-
--- a state has its machine value
-abbrev pub Fits : State → Type 0
-Fits = local.Fits T.the_type T'.the_laws
 
 module _ (z : Seat) (s₀ : State) (m₀ es a₀ : List ℕ) where
   -- what is known before a turn, of the state, the memory, the answers and the place in the list
   pub record Known (s : State) (m a : List ℕ) (i : ℕ) : Type 0 where
-    pub fits : Fits s
     pub well : well_formed z.size z.select s ≡ true
     pub sized : length m ≡ z.size
     pub within : i ≤ length es
@@ -39,10 +31,9 @@ module _ (z : Seat) (s₀ : State) (m₀ es a₀ : List ℕ) where
     pub at : ℕ
     pub known : Known state memory answers at
 
-  pub started_known : Fits s₀ → well_formed z.size z.select s₀ ≡ true → length m₀ ≡ z.size → Known s₀ m₀ a₀ 0
-  started_known f w l =
+  pub started_known : well_formed z.size z.select s₀ ≡ true → length m₀ ≡ z.size → Known s₀ m₀ a₀ 0
+  started_known w l =
       record {
-        fits = f;
         well = w;
         sized = l;
         within = omega arith;
@@ -52,20 +43,19 @@ module _ (z : Seat) (s₀ : State) (m₀ es a₀ : List ℕ) where
       }
 
   -- before the first turn
-  abbrev pub started : Fits s₀ → well_formed z.size z.select s₀ ≡ true → length m₀ ≡ z.size → Turn
-  started f w l = record { state = s₀; memory = m₀; answers = a₀; at = 0; known = started_known f w l }
+  abbrev pub started : well_formed z.size z.select s₀ ≡ true → length m₀ ≡ z.size → Turn
+  started w l = record { state = s₀; memory = m₀; answers = a₀; at = 0; known = started_known w l }
 
   module _ (t : Turn) (s' : State) (m' : List ℕ) (v : ℕ) (p : 0 < z.size) (h : t.at < length es)
-      (g : length es ≤ length a₀) (f : Fits s')
-      (e : InPlace z t.state t.memory (get_or es t.at 0) (get_or t.answers t.at 0) s' v m')
+      (g : length es ≤ length a₀)
+      (e : HeardInPlace z t.state t.memory (get_or es t.at 0) (get_or t.answers t.at 0) s' v m')
       (l : length m' ≡ length t.memory) where
     pub turned_known : Known s' m' (set t.answers t.at v) (t.at + 1)
     turned_known =
         let k = t.known in
         let x = get_or es t.at 0 in
         record {
-          fits = f;
-          well = rw e.state (heard_well z t.state t.memory x p k.well k.sized);
+            well = rw e.state (heard_well z t.state t.memory x p k.well k.sized);
           sized = rw e.memory (heard_sized z t.state t.memory x p k.well k.sized);
           within = omega arith;
           memory_length = l ∙ k.memory_length;

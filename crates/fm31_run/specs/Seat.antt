@@ -3,7 +3,7 @@
 --   hears_at, own_byte      which events the device at a place hears, and as which of its own ten
 --   joined_at, joined_over  its answer with what those before it answered: one, and a list in its buffer
 --   heard_in, ran_in        an event of the line, and a list of them, on a device in its seat
---   HeardAs, InPlace      what a function that does an event returns and leaves: by value, and of a lent state
+--   HeardAs, HeardInPlace what a function that does an event returns and leaves: by value, and of a lent state
 --   RanAt                 what a function that does a list returns and leaves
 use Rattle.std.specs.Prelude.{ℕ, ◌+◌, ◌/◌, ◌%◌, ◌≡◌, Bool, cond, ◌||◌, List, [], ◌∷◌, eqb, ltb}
 use Rattle.bus_list.specs.Run as list
@@ -48,8 +48,8 @@ pub record HeardAs (z : Seat) (s : State) (m : List ℕ) (e before : ℕ) (r : A
   pub memory : m' ≡ (heard_in z s m e).memory
 
 -- 02, number 12: "changed in place": the state at exit, the answer and the memory are those of an event.
-abbrev pub InPlace : Seat → State → List ℕ → ℕ → ℕ → State → ℕ → List ℕ → Type 0
-InPlace z s m e before s' a m' = HeardAs z s m e before (record { state = s'; answer = a }) m'
+abbrev pub HeardInPlace : Seat → State → List ℕ → ℕ → ℕ → State → ℕ → List ℕ → Type 0
+HeardInPlace z s m e before s' a m' = HeardAs z s m e before (record { state = s'; answer = a }) m'
 
 pub record RanAt (z : Seat) (s : State) (m es a : List ℕ) (r : State) (m' a' : List ℕ) : Type 0 where
   pub state : r ≡ (ran_in z s m es).state

@@ -6,6 +6,8 @@
 // step   the same on a record that is lent
 // list   a list of events on a device in its seat
 // run    a list of events on a device alone
+#![tactic(auto)]
+
 mod hear;
 pub mod list;
 pub mod run;
@@ -13,7 +15,7 @@ mod step;
 
 // Where a device sits on its line: the bytes of its memory, its two select bits, and its place, 0 to 3, among the devices. One
 // that is alone sits at the first.
-#[derive(Drop)]
+#[derive(Clone, Copy)]
 pub struct Seat {
     pub size: u16,
     pub select: u8,

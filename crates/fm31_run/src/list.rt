@@ -5,7 +5,7 @@ ghost use Rattle.fm31.specs.Limits.{well_formed};
 ghost use Rattle.fm31_run.specs.Seat.{RanAt};
 
 use crate::Seat;
-use crate::step::advance_in_place;
+use crate::step::hear_in_place;
 use fm31::State;
 
 // All events of a line, one by one, on one of its devices: the state they lead to. One record stays in the loop and is changed in
@@ -25,7 +25,7 @@ pub fn run_at(
     let mut at = state;
     let mut i = 0;
     while i < events.len() {
-        answers[i] = advance_in_place(&mut at, memory, seat, events[i], answers[i]);
+        answers[i] = hear_in_place(&mut at, memory, seat, events[i], answers[i]);
         i += 1;
     }
     at

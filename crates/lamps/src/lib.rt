@@ -4,13 +4,15 @@
 //
 // follow   the byte under way, and what an event is to the lamps
 // entry    the record: one step for each event of the device, and the report
+#![tactic(auto)]
+
 use lamps_eight::Lamps;
 
 mod entry;
 mod follow;
 
 // What the ninth clock of a byte is for: a lamp's value may be whole; nothing of ours; the device has to acknowledge.
-#[derive(Drop)]
+#[derive(Clone, Copy)]
 pub enum Due {
     Value,
     Silence,
@@ -19,7 +21,7 @@ pub enum Due {
 
 // The byte under way: whether it was refused at its eighth clock and still waits for its ninth; of a byte read from the
 // memory the address at its first clock, and the line so far.
-#[derive(Drop)]
+#[derive(Clone, Copy)]
 pub struct Follower {
     pub refused: bool,
     pub place: u16,
@@ -27,7 +29,7 @@ pub struct Follower {
 }
 
 // The record by value.
-#[derive(Drop)]
+#[derive(Clone, Copy)]
 pub struct Proving {
     pub follower: Follower,
     pub lamps: Lamps,

@@ -1,6 +1,8 @@
 // SPDX-License-Identifier: Apache-2.0
 // The proving record as 20 bytes of the caller's: 0 refused; 1 and 2 the address, high byte first; 3 the byte so far; then of each
 // lamp what the transaction gave and the ticks left.
+#![tactic(auto)]
+
 ghost use Rattle.std.specs.Prelude.{◌≡◌, ◌<◌, length};
 ghost use Rattle.lamps_bytes.specs.Kept.{lamp_in, lamps_in, kept_of, bytes_of, lamp_fits, lamps_fit, is_kept};
 ghost use Rattle.lamps_eight.specs.Eight.{bit};

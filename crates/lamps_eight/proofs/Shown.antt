@@ -6,7 +6,7 @@ use mathlib.Core.Bool.{Bool, false, cond}
 use mathlib.Core.List.{List, [], ◌∷◌}
 use native.Mathlib.Omega.{arith}
 use lib.Dec.{eqb, ltb}
-use borrow.Author.Tests.{ltb_true, ltb-false, lt-ltb, le-ltb}
+use borrow.Author.Tests.{ltb-true, ltb-false, lt-ltb, le-ltb}
 use Rattle.wire.proofs.Tests.{by_test}
 use Rattle.lamps_eight.specs.Lit.{Last, nothing, gave, read_in, decided, lit_from}
 use Rattle.lamps_eight.specs.Eight.{lamp, lamp_ended, lamp_next}
@@ -29,7 +29,7 @@ never t = sym (le-ltb t 0 (omega arith))
 earlier : (t n : ℕ) → ltb (suc t) n ≡ ltb t (n - 1)
 earlier t n =
     by_test (ltb (suc t) n)
-    (λ q. let l = ltb_true (suc t) n q in q ∙ sym (lt-ltb t (n - 1) (omega arith)))
+    (λ q. let l = ltb-true (suc t) n q in q ∙ sym (lt-ltb t (n - 1) (omega arith)))
     (λ q. let l = ltb-false (suc t) n q in q ∙ sym (le-ltb t (n - 1) (omega arith)))
 
 -- a Stop, by what the transaction gave

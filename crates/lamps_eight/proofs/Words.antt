@@ -6,7 +6,7 @@ use mathlib.Core.Bool.{true, false, false≢true}
 use mathlib.Core.List.{List, [], ◌∷◌, ◌++◌}
 use native.Mathlib.Omega.{arith}
 use lib.Dec.{eqb, ltb}
-use borrow.Author.Tests.{eqb-true, ltb_true, lt-ltb, eq-eqb}
+use borrow.Author.Tests.{eqb-true, ltb-true, lt-ltb, eq-eqb}
 use Rattle.wire.proofs.Tests.{by_test, and_split, and_join}
 use Rattle.lamps_eight.specs.Lit.{Lit, is_failure, is_stop, is_read, is_tick, none, count, no_whole, Last, nothing, gave, read_in, decided, lit_from}
 use Rattle.lamps_eight.specs.declared.Mark.{Mark}
@@ -149,7 +149,7 @@ mutual_stop at t l nothing e f h = back_stop e (f h)
 mutual_stop at t l (gave v) e f h =
     let both = and_split (eqb v 1) (ltb t 3) h in
     let one = eqb-true v 1 both.0 in
-    let few = ltb_true t 3 both.1 in
+    let few = ltb-true t 3 both.1 in
     record {
       since = [];
       here = l;

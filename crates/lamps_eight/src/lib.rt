@@ -2,11 +2,13 @@
 // Eight lamps along a log of what events were to them, free of any device: specs/Lit says when one is lit.
 //
 // lit   the lamps after one more line of the log, and the report
+#![tactic(auto)]
+
 mod lit;
 
 // What an event is to the lamps: the bus failed; a Stop; a tick; the ninth clock of a byte read from the memory, with its
 // address and what the line showed; nothing.
-#[derive(Drop)]
+#[derive(Clone, Copy)]
 pub enum Mark {
     Failed,
     Ended,
@@ -16,14 +18,14 @@ pub enum Mark {
 }
 
 // A lamp: what the transaction under way gave (0 nothing, 1 lit, 2 dark), and for how many ticks it is still lit.
-#[derive(Drop)]
+#[derive(Clone, Copy)]
 pub struct Lamp {
     pub held: u8,
     pub left: u8,
 }
 
 // The lamps of the bytes at 1000h to 1007h.
-#[derive(Drop)]
+#[derive(Clone, Copy)]
 pub struct Lamps {
     pub zero: Lamp,
     pub one: Lamp,

@@ -4,7 +4,7 @@ use Prim.Native.Nat.{ℕ, ◌/◌, ◌%◌}
 use mathlib.Core.Path.{◌≡◌, refl}
 use mathlib.Core.Bool.{Bool, true, false, not, ◌&&◌, ◌||◌, true≢false, false≢true}
 use mathlib.Core.List.{List, [], ◌∷◌}
-use borrow.Author.Tests.{not_true}
+use borrow.Author.Tests.{not-true}
 use Rattle.wire.specs.declared.Phase.{Phase}
 use Rattle.wire.proofs.Tests.{and_split}
 use Rattle.calendar.specs.Next.{next_of}
@@ -82,4 +82,4 @@ pub every_counted : EveryCounted
 every_counted s m h =
     let t = and_split (supplied s.power) (not (bit 128 s.companion.registers.trim)) h in
     counted_by_lem s.phase s.address s.companion m s.power
-    (ticks_by s.phase s.address s.companion m s.power t.0) (not_true _ t.1)
+    (ticks_by s.phase s.address s.companion m s.power t.0) (not-true _ t.1)

@@ -5,7 +5,7 @@ use mathlib.Core.Path.{◌≡◌, ap, ◌∙◌}
 use mathlib.Core.Bool.{Bool, true, ◌&&◌, ◌||◌}
 use native.Mathlib.Omega.{arith}
 use lib.Dec.{ltb}
-use borrow.Author.Tests.{ltb_true}
+use borrow.Author.Tests.{ltb-true}
 use Rattle.calendar.specs.Next.{is_valid}
 use Rattle.calendar.specs.declared.Calendar.{Calendar}
 use Rattle.fm3130_companion.specs.declared.Registers.{Registers}
@@ -15,10 +15,10 @@ use Rattle.law_alarm.specs.Alarm.{agreed, masked, AlarmByMasks}
 use Rattle.law_alarm.proofs.Alarm.{alarm_rises}
 
 below_64 : (b : ℕ) → ltb (b % 128) 64 ≡ true → b % 128 ≡ b % 64
-below_64 b h = let l = ltb_true (b % 128) 64 h in omega arith
+below_64 b h = let l = ltb-true (b % 128) 64 h in omega arith
 
 below_32 : (b : ℕ) → ltb (b % 128) 32 ≡ true → b % 128 ≡ b % 32
-below_32 b h = let l = ltb_true (b % 128) 32 h in omega arith
+below_32 b h = let l = ltb-true (b % 128) 32 h in omega arith
 
 agreed_masked : (r : Registers) (c : Calendar) → RegistersWithin r → agreed r.alarm c ≡ masked r.alarm c
 agreed_masked r c w =

@@ -10,7 +10,7 @@ use mathlib.Core.List.{List, [], ◌∷◌}
 use native.Mathlib.Omega.{arith}
 use lib.Dec.{ltb, eqb}
 use lib.ListN.{length, get_or, set}
-use borrow.Author.Tests.{ltb_true, ltb-false, eqb-true, eqb-false}
+use borrow.Author.Tests.{ltb-true, ltb-false, eqb-true, eqb-false}
 use Rattle.wire.specs.Memory.{Cells}
 use Rattle.wire.specs.Machine.{Out}
 use Rattle.wire.specs.declared.Side.TheVariants.{Memory, Companion}
@@ -50,7 +50,7 @@ pub record Met (A : ℕ → Bool) (t : Bool) (o u : Out fm3130) : Type 0 where
 
 pub by_place : {X : Type 0} (k : ℕ) → (k < 7 → X) → (k ≡ 7 → X) → (7 ≤ k → (k ≡ 7 → ⊥) → X) → X
 by_place k f g h =
-    by_test (ltb k 7) (λ l. f (ltb_true k 7 l))
+    by_test (ltb k 7) (λ l. f (ltb-true k 7 l))
     (λ l. by_test (eqb k 7) (λ q. g (eqb-true k 7 q)) (λ q. h (ltb-false k 7 l) (eqb-false k 7 q)))
 
 -- one byte stored in both

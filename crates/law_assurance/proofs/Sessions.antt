@@ -6,7 +6,7 @@ use Prim.Native.Nat.{ℕ}
 use mathlib.Core.Path.{◌≡◌, refl, ap}
 use mathlib.Core.Bool.{Bool, true, false, cond, not, ◌||◌, true≢false, false≢true}
 use mathlib.Core.List.{List, [], ◌∷◌}
-use borrow.Author.Tests.{not_true}
+use borrow.Author.Tests.{not-true}
 use Rattle.wire.specs.Machine.{start, stop, clock, lined}
 use Rattle.wire.specs.declared.Phase.TheVariants.{Idle}
 use Rattle.wire.proofs.Tests.{by_test, and_split}
@@ -167,7 +167,7 @@ not_both (Held Handheld) Handheld Rig h e = refl
 not_both (Held Handheld) Handheld Handheld h e = absurd (true≢false e)
 
 may_worlds : (g : Holder) (x : Master) (es : List ℕ) → may_call g x es ≡ true → holds g x ≡ false → any_bus es ≡ false
-may_worlds g x es c h = not_true (any_bus es) (rw h at c)
+may_worlds g x es c h = not-true (any_bus es) (rw h at c)
 
 ask_kept : (g : Holder) (me x : Master) → holds g me ≡ true → after_ask g x ≡ g
 ask_kept Nobody me x h = absurd (false≢true h)

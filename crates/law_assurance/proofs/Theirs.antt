@@ -1,6 +1,6 @@
 -- SPDX-License-Identifier: Apache-2.0
 -- A Clock of the other master, which writes none of the bytes in question and no register and reads no 00h, on one of two
--- devices: they stay near. A byte that is refused leaves memory, registers and core.
+-- devices: they stay near.
 use Prim.Native.Nat.{ℕ}
 use mathlib.Core.Path.{◌≡◌, refl, sym, ap, ◌∙◌}
 use mathlib.Core.Bool.{Bool, true, false, true≢false}
@@ -20,7 +20,7 @@ use Rattle.wire.specs.declared.Phase.TheVariants.{Idle, Slave, AddressHigh, Addr
 use Rattle.wire.proofs.Clock.{received_inside, received_last, received_ack, sent_first, sent_within, sent_last, sent_ack}
 use Rattle.wire.proofs.Cells.{low_bytes, fetch_bytes}
 use Rattle.wire.proofs.Tests.{by_test}
-use Rattle.fm3130_companion.specs.Part.{guard_of, aim_of, loads_bad_date, store_of, load_of, loaded_of}
+use Rattle.fm3130_companion.specs.Part.{guard_of, aim_of, load_of, loaded_of}
 use Rattle.fm3130_companion.specs.declared.Companion.{Companion as Desk}
 use Rattle.fm3130.specs.Desk.{aims, stores}
 use Rattle.fm3130.specs.Chip.{memory_size, fm3130}
@@ -67,21 +67,20 @@ module _ (A : ℕ → Bool) (s : State) (m : List ℕ) (n : Cells) (e : Desk) (h
       (λ q. rw (received_last R c k b d q) (aimed_far (pushed b d) (leb (pushed b d) 14) refl))
       (λ l q. rw (received_ack R c k b d l q) h)
 
-  put_far : (b : ℕ) → (is_protected memory_size (guard_of c) s.address ≡ false → A s.address ≡ false) → (x : Bool)
-      → is_protected memory_size (guard_of c) s.address ≡ x
+  put_far : (b : ℕ) → A s.address ≡ false → (x : Bool) → is_protected memory_size (guard_of c) s.address ≡ x
       → Far A (put_byte memory_size (guard_of c) st b).next c n e
   unfolding put_byte refused_byte
   put_far b f true q = rw q (same_bytes_lem _ refl)
   put_far b f false q =
       rw q (record {
-        bytes = λ a z. get_or-set_other m s.address a b 0 (λ i. true≢false (sym z ∙ (ap A i ∙ f q))) ∙ h.bytes a z;
+        bytes = λ a z. get_or-set_other m s.address a b 0 (λ i. true≢false (sym z ∙ (ap A i ∙ f))) ∙ h.bytes a z;
         size = length-set m s.address b ∙ h.size;
         registers = h.registers;
         core = h.core;
         address = λ z. absurd (true≢false (sym z));
       })
 
-  data_far : (k b : ℕ) → (k ≡ 7 → is_protected memory_size (guard_of c) s.address ≡ false → A s.address ≡ false)
+  data_far : (k b : ℕ) → (k ≡ 7 → A s.address ≡ false)
       → Far A (received (memory_byte (put_byte memory_size (guard_of c))) st k b d).part c n e
   data_far k b f =
       let R = memory_byte (put_byte memory_size (guard_of c)) in
@@ -89,19 +88,10 @@ module _ (A : ℕ → Bool) (s : State) (m : List ℕ) (n : Cells) (e : Desk) (h
       (λ q. rw (received_last R st k b d q) (put_far (pushed b d) (f q) (is_protected memory_size (guard_of c) s.address) refl))
       (λ l q. rw (received_ack R st k b d l q) h)
 
-  -- a byte that is refused leaves registers and core
-  refused_far : (b : ℕ) → (store_of c b).acknowledged ≡ false → Far A st (stores c b).next n e
-  unfolding store_of
-  refused_far b q =
-      by_test (loads_bad_date c b) (λ t. rw t (same_desk _ refl refl)) (λ t. absurd (true≢false (rw t at q)))
-
-  register_far : (k b : ℕ) → (k ≡ 7 → (store_of c (pushed b d)).acknowledged ≡ false)
-      → Far A st (received (companion_byte stores) c k b d).part n e
+  register_far : (k b : ℕ) → (k ≡ 7 → ⊥) → Far A st (received (companion_byte stores) c k b d).part n e
   register_far k b f =
       let R = companion_byte stores in
-      by_place k (λ l. rw (received_inside R c k b d l) h)
-      (λ q. rw (received_last R c k b d q) (refused_far (pushed b d) (f q)))
-      (λ l q. rw (received_ack R c k b d l q) h)
+      by_place k (λ l. rw (received_inside R c k b d l) h) (λ q. absurd (f q)) (λ l q. rw (received_ack R c k b d l q) h)
 
   load_far : (k b : ℕ) → (k ≡ 7 → c.address ≡ 0 → ⊥) → Far A st (sent (companion_read load_of loaded_of) c k b d).part n e
   unfolding loaded_of
@@ -113,7 +103,7 @@ module _ (A : ℕ → Bool) (s : State) (m : List ℕ) (n : Cells) (e : Desk) (h
       (λ l g. rw (sent_ack S c k b d l g) h))
 
   -- a Clock, by phase
-  pub clock_far : (p : Phase) → HarmlessAt A s p d
+  pub clock_far : (p : Phase) → HarmlessAt A s p
       → Near A false (clocked fm3130 p st c d).state.memory (clocked fm3130 p st c d).state.companion n e
   unfolding clocked
   clock_far Idle f = h

@@ -8,13 +8,11 @@
 --   SameAnswers                       the statement
 -- A read from the current address has no such assurance: both addresses are what the other left.
 use Rattle.std.specs.Prelude.{ℕ, zero, suc, ◌≡◌, Bool, true, false, cond, List, [], ◌∷◌, leb, eqb}
-use Rattle.wire.specs.Bits.{pushed}
-use Rattle.wire.specs.Memory.{next, is_protected}
+use Rattle.wire.specs.Memory.{next}
 use Rattle.wire.specs.Machine.{start, stop, clock}
 use Rattle.wire.specs.declared.Side.TheVariants.{Memory, Companion}
 use Rattle.wire.specs.declared.Phase.{Phase}
 use Rattle.wire.specs.declared.Phase.TheVariants.{Idle, Slave, AddressHigh, AddressLow, Pointer, Write, Read}
-use Rattle.fm3130_companion.specs.Part.{guard_of, store_of}
 use Rattle.fm3130.specs.Chip.{memory_size}
 use Rattle.fm3130.specs.Event.{Happening, on_wire, beat, lost, gone, returned, happening, event_of}
 use Rattle.fm3130.specs.declared.State.{State}
@@ -75,25 +73,22 @@ abbrev pub marked_after : Bool → State → List ℕ → List ℕ → Bool
 marked_after t s m [] = t
 marked_after t s m (e ∷ es) = marked_after (marked t s.phase (happening e)) (event_of s m e).state (event_of s m e).memory es
 
--- "The other wrote none of those bytes and no register and read no 00h": a Clock that would end such a byte, its eighth, where the
--- master's line is d. A byte that the device refuses is not written: one to a protected address, and a date that does not
--- exist (02, number 6).
-abbrev pub HarmlessAt : (ℕ → Bool) → State → Phase → Bool → Type 0
-HarmlessAt A s Idle d = Unit {0}
-HarmlessAt A s (Slave k b) d = Unit {0}
-HarmlessAt A s (AddressHigh k b) d = Unit {0}
-HarmlessAt A s (AddressLow h k b) d = Unit {0}
-HarmlessAt A s (Pointer k b) d = Unit {0}
-HarmlessAt A s (Write Memory k b) d =
-    k ≡ 7 → is_protected memory_size (guard_of s.companion) s.address ≡ false → A s.address ≡ false
-HarmlessAt A s (Write Companion k b) d = k ≡ 7 → (store_of s.companion (pushed b d)).acknowledged ≡ false
-HarmlessAt A s (Read Memory k b) d = Unit {0}
-HarmlessAt A s (Read Companion k b) d = k ≡ 7 → s.companion.address ≡ 0 → ⊥
+-- "The other wrote none of those bytes and no register and read no 00h": a Clock that would end such a byte, its eighth.
+abbrev pub HarmlessAt : (ℕ → Bool) → State → Phase → Type 0
+HarmlessAt A s Idle = Unit {0}
+HarmlessAt A s (Slave k b) = Unit {0}
+HarmlessAt A s (AddressHigh k b) = Unit {0}
+HarmlessAt A s (AddressLow h k b) = Unit {0}
+HarmlessAt A s (Pointer k b) = Unit {0}
+HarmlessAt A s (Write Memory k b) = k ≡ 7 → A s.address ≡ false
+HarmlessAt A s (Write Companion k b) = k ≡ 7 → ⊥
+HarmlessAt A s (Read Memory k b) = Unit {0}
+HarmlessAt A s (Read Companion k b) = k ≡ 7 → s.companion.address ≡ 0 → ⊥
 
 abbrev pub Harmless : (ℕ → Bool) → State → Happening → Type 0
 Harmless A s (on_wire start) = Unit {0}
 Harmless A s (on_wire stop) = Unit {0}
-Harmless A s (on_wire (clock d)) = HarmlessAt A s s.phase d
+Harmless A s (on_wire (clock d)) = HarmlessAt A s s.phase
 Harmless A s (beat t') = Unit {0}
 Harmless A s lost = Unit {0}
 Harmless A s gone = Unit {0}

@@ -8,7 +8,7 @@ use Prim.Native.Nat.{ℕ, zero, suc, ◌+◌, ◌*◌, ◌-◌, ◌≤◌, ◌<�
 use native.Mathlib.Omega.{arith}
 use native.Mathlib.Nat.{add-zero}
 use lib.Dec.{ltb}
-use borrow.Author.Tests.{ltb_true, ltb-false}
+use borrow.Author.Tests.{ltb-true, ltb-false}
 use Rattle.calendar.specs.Field.{value}
 use Rattle.calendar.specs.Next.{length_of}
 use Rattle.calendar.specs.Instant.{month_start, month_index, day_number, time_of, instant}
@@ -63,8 +63,8 @@ same_month :
 same_month j k a b l m e ha hb hj hk = by_order (ltb j k) (ltb k j) refl refl
   where
     by_order : (s t : Bool) → ltb j k ≡ s → ltb k j ≡ t → j ≡ k
-    by_order true t p q = omega (arith, month_start_before j k (ltb_true j k p))
-    by_order false true p q = omega (arith, month_start_before k j (ltb_true k j q))
+    by_order true t p q = omega (arith, month_start_before j k (ltb-true j k p))
+    by_order false true p q = omega (arith, month_start_before k j (ltb-true k j q))
     by_order false false p q = omega (arith, ltb-false j k p, ltb-false k j q)
 
 -- a byte is settled by its number

@@ -7,7 +7,7 @@ use mathlib.Core.Bool.{Bool, true, false, false≢true}
 use mathlib.Core.List.{List}
 use native.Mathlib.Omega.{arith}
 use lib.Dec.{eqb, ltb}
-use borrow.Author.Tests.{eqb-false, ltb_true, ltb-false, lt-ltb}
+use borrow.Author.Tests.{eqb-false, ltb-true, ltb-false, lt-ltb}
 use Rattle.bits.proofs.Cases.{by_cond}
 use Rattle.wire.proofs.Tests.{by_test}
 use Rattle.wire.specs.Bits.{Place as Clocks, first as initial, within, last, ack, place_at}
@@ -191,7 +191,7 @@ called_high R k b h =
     (λ e. by_cond (λ (z : Clocks). (received_at z R tt k b true).line ≡ true) (ltb k 7) (λ f. refl)
     (λ f. by_cond (λ (z : Clocks). (received_at z R tt k b true).line ≡ true) (eqb k 7) (λ g. refl)
     (λ g.
-    let l = ltb_true k 8 h in
+    let l = ltb-true k 8 h in
     let q = ltb-false k 7 f in
     let d = eqb-false k 7 g in
     absurd (d (omega arith)))))
@@ -262,13 +262,13 @@ module _ (t : Together) (v : Place) (unlike : Unlike t) (stands : Stands t) (her
   unfolding happening
   low_stays =
       let h = at v t in
-      line_is_low t 2 v (omega arith) (ltb_true (number_of v) t.set.count here)
+      line_is_low t 2 v (omega arith) (ltb-true (number_of v) t.set.count here)
       (device_low (size_in h) (select_in h) (bus_in h) (counters_in h) h.memory (bus_in h).power)
 
 pub hears_the_line : HearsTheLine
 hears_the_line t v true u s h =
-    hears_all_events t v 3 (ltb_true (number_of v) t.set.count h) (omega arith)
+    hears_all_events t v 3 (ltb-true (number_of v) t.set.count h) (omega arith)
     ∙ by_test (line_to t 3) (λ e. rw e refl) (λ e. rw e (goes_on t v u s h e))
 hears_the_line t v false u s h =
-    hears_all_events t v 2 (ltb_true (number_of v) t.set.count h) (omega arith)
+    hears_all_events t v 2 (ltb-true (number_of v) t.set.count h) (omega arith)
     ∙ rw (low_stays t v u s h) refl

@@ -7,7 +7,7 @@ use mathlib.Core.Bool.{true}
 use mathlib.Core.List.{List}
 use lib.Dec.{ltb}
 use lib.ListN.{length}
-use borrow.Author.Tests.{ltb_true}
+use borrow.Author.Tests.{ltb-true}
 use Rattle.set_event.specs.Set.{Held, Place, first, second, third, fourth, number_of, at, size_in, select_in}
 use Rattle.set_event.specs.Outcome.{lent_to}
 use Rattle.fm31_image.specs.Image.{image_of}
@@ -48,10 +48,10 @@ others_untouched plan images a b c d i v xs room h idle hi hv whole apart =
     let same : at v u ≡ at v t =
     ap (at v) (run_together t es) ∙ transaction_leaves t i v xs idle unlike hi whole apart in
     let on : number_of v < length plan =
-    ltb_true (number_of v) (length plan) (subst (λ (k : ℕ). ltb (number_of v) k ≡ true) (counted plan fits) hv) in
+    ltb-true (number_of v) (length plan) (subst (λ (k : ℕ). ltb (number_of v) k ≡ true) (counted plan fits) hv) in
     let wrote =
     (written_in_order (count_of plan) u images (reading_length plan images all.well)).each v
-    (ltb_true (number_of v) (count_of plan) hv) in
+    (ltb-true (number_of v) (count_of plan) hv) in
     let was = (read_in_order plan images a b c d v all.well on).state in
     let done = outcome_done plan images a b c d es room e in
     record {

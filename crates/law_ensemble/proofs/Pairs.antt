@@ -5,7 +5,7 @@ use mathlib.Core.Path.{◌≡◌, sym, refl}
 use mathlib.Core.Bool.{Bool, true, false}
 use native.Mathlib.Omega.{arith}
 use lib.Dec.{ltb}
-use borrow.Author.Tests.{ltb_true, lt-ltb}
+use borrow.Author.Tests.{ltb-true, lt-ltb}
 use Rattle.law_wired.proofs.Wire.{not_true}
 use Rattle.set_event.specs.Set.{Held, Together, Place, first, second, third, fourth, at}
 use Rattle.set_event.specs.Make.{pairs_are}
@@ -38,7 +38,7 @@ module _ (R : Held → Held → Type 0) (back : (h k : Held) → R h k → R k h
 
 -- an earlier place is on the line too
 earlier : (v w n : ℕ) → v < w → ltb w n ≡ true → ltb v n ≡ true
-earlier v w n l e = let k = ltb_true w n e in lt-ltb v n (omega arith)
+earlier v w n l e = let k = ltb-true w n e in lt-ltb v n (omega arith)
 
 pub of_each_two : (test : Held → Held → Bool) (t : Together)
     → ((v w : Place) → Here t v → Here t w → same_place v w ≡ false → test (at v t) (at w t) ≡ true)

@@ -6,7 +6,7 @@ use mathlib.Core.Path.{◌≡◌, refl, sym, ap, subst}
 use mathlib.Core.Bool.{true, false, ◌&&◌}
 use mathlib.Core.List.{List, [], ◌∷◌}
 use lib.Dec.{eqb, ltb}
-use borrow.Author.Tests.{ltb_true, lt-ltb, eqb-true, eq-eqb}
+use borrow.Author.Tests.{ltb-true, lt-ltb, eqb-true, eq-eqb}
 use Rattle.wire.specs.declared.Phase.{Phase}
 use Rattle.wire.specs.declared.Phase.TheVariants.{Idle, Slave, AddressHigh, AddressLow, Pointer, Write, Read}
 use Rattle.wire.proofs.Tests.{by_test, and_split}
@@ -36,7 +36,7 @@ called_is k b (Slave l c) e =
     let g = and_split (eqb l k) (eqb c b) h.1 in
     subst (λ (z : ℕ). Clear (Slave k b) (Slave z c)) (sym (eqb-true l k g.0))
     (subst (λ (z : ℕ). Clear (Slave k b) (Slave k z)) (sym (eqb-true c b g.1))
-    (both_called k b (ltb_true k 8 h.0)))
+    (both_called k b (ltb-true k 8 h.0)))
 called_is k b (AddressHigh l c) e = not_true (and_split (ltb k 8) false e).1
 called_is k b (AddressLow h l c) e = not_true (and_split (ltb k 8) false e).1
 called_is k b (Pointer l c) e = not_true (and_split (ltb k 8) false e).1

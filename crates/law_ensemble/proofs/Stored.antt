@@ -8,7 +8,7 @@ use mathlib.Core.List.{List, [], ◌∷◌, ◌++◌}
 use native.Mathlib.Omega.{arith}
 use lib.Dec.{eqb, ltb}
 use lib.ListN.{length, get_or}
-use borrow.Author.Tests.{ne_eqb, eqb-true, ltb_true}
+use borrow.Author.Tests.{ne_eqb, eqb-true, ltb-true}
 use Rattle.bits.proofs.Cases.{by_cond}
 use Rattle.wire.proofs.Tests.{and_split}
 use Rattle.wire.specs.Machine.{start, stop, clock, lined, clocked}
@@ -228,7 +228,7 @@ module _ (t : Together) (v : Place) (byte : List ℕ) (unlike : Unlike t) (stand
 
     own_line : line_at n (number_of v) (at v u) 3 ≡ (done_in (at v u) 3).line
     unfolding own_byte
-    own_line = rw (hears_all n (number_of v) 3 (ltb_true (number_of v) n there_too) (omega arith)) refl
+    own_line = rw (hears_all n (number_of v) 3 (ltb-true (number_of v) n there_too) (omega arith)) refl
 
 -- so the line is that of the device which writes
 line_is_its : (t : Together) (v : Place) (byte : List ℕ) → Unlike t → Stands t → Here t v → AtData (bus_in (at v t)) → NoStart byte
@@ -280,7 +280,7 @@ set_stores t v byte w d un st fit he da qu r low =
     ap (λ (z : Held). z.memory) (as_alone t v (byte ++ (clock_event d ∷ [])))
     ∙ (ap (λ (es : List ℕ). (alone k es).memory)
     (heard_append n (number_of v) byte (clock_event d ∷ [])
-    ∙ ap (λ (x : List ℕ). own ++ x) (ninth_heard n (number_of v) d (ltb_true (number_of v) n he)))
+    ∙ ap (λ (x : List ℕ). own ++ x) (ninth_heard n (number_of v) d (ltb-true (number_of v) n he)))
     ∙ alone_memory k (own ++ (clock_event d ∷ []))) in
     subst (StoredAt k.memory (bus_in k).address w) (sym left)
     (stored.acknowledged_stored (size_in k) (slave_names_for (select_in k)) companion31 beaten_guard edge_heard (whole k) [] own w d

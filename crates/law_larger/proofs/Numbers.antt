@@ -2,7 +2,7 @@
 -- The family's numbers: the ways through the entry's tests, with the test of all events told by its words.
 use Prim.Native.Nat.{ℕ, ◌≤◌}
 use mathlib.Core.Path.{◌≡◌, refl, ap}
-use mathlib.Core.Bool.{true, false, and_false}
+use mathlib.Core.Bool.{true, false, and-false}
 use mathlib.Core.List.{List, [], ◌∷◌, ◌++◌}
 use native.Mathlib.Omega.{arith}
 use lib.Dec.{leb}
@@ -20,7 +20,7 @@ use Rattle.law_larger.specs.Numbers.{UnknownIn, EveryNumber}
 found : (xs : List ℕ) (e : ℕ) (ys : List ℕ) → 10 ≤ e → all_known (xs ++ (e ∷ ys)) ≡ false
 unfolding list.all_known
 found [] e ys h = rw (lt-leb e last_event (omega arith))
-found (x ∷ xs) e ys h = rw (found xs e ys h) (and_false (leb x last_event))
+found (x ∷ xs) e ys h = rw (found xs e ys h) (and-false (leb x last_event))
 
 unknown_found : (es : List ℕ) → UnknownIn es → all_known es ≡ false
 unknown_found es u = rw u.list (found u.before u.event u.rest u.unknown)

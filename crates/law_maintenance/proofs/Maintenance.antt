@@ -2,12 +2,12 @@
 -- What maintenance may rely on.
 use Prim.Native.Nat.{ℕ, zero, suc, ◌+◌, ◌≤◌}
 use mathlib.Core.Path.{◌≡◌, refl, sym, ap, ◌∙◌}
-use mathlib.Core.Bool.{Bool, true, false, cond, not, and_false, false≢true}
+use mathlib.Core.Bool.{Bool, true, false, cond, not, and-false, false≢true}
 use mathlib.Core.List.{List, [], ◌∷◌, ◌++◌, append_assoc}
 use native.Mathlib.Omega.{arith}
 use lib.Dec.{eqb, ltb}
 use lib.ListN.{replicate}
-use borrow.Author.Tests.{eqb-true, eqb-false, lt-ltb, le-ltb, not_true}
+use borrow.Author.Tests.{eqb-true, eqb-false, lt-ltb, le-ltb, not-true}
 use Rattle.wire.specs.Machine.{start, stop, clock}
 use Rattle.wire.specs.declared.Phase.{Phase}
 use Rattle.wire.specs.declared.Phase.TheVariants.{Idle}
@@ -190,7 +190,7 @@ mark_stop returned k d p a v e = refl
 -- with three ticks after them, lines decide nothing but dark
 old_stop : (q : Last) (t : ℕ) (older : Bool) → 3 ≤ t → older ≡ false → decided q t older ≡ false
 old_stop nothing t older h e = e
-old_stop (gave v) t older h e = rw (le-ltb t 3 h) (and_false (eqb v 1))
+old_stop (gave v) t older h e = rw (le-ltb t 3 h) (and-false (eqb v 1))
 
 old_dark : (at t : ℕ) (l : List Mark) → 3 ≤ t → lit_from at t l ≡ false
 unfolding lit_from
@@ -225,7 +225,7 @@ stopless_unread : (at : ℕ) (q l : List Mark) → none is_stop q ≡ true → u
 stopless_unread at [] l n = refl
 stopless_unread at (x ∷ q) l n =
     let both = and_split (not (is_stop x)) (none is_stop q) n in
-    rw (not_true (is_stop x) both.0) (stopless_unread at q l both.1)
+    rw (not-true (is_stop x) both.0) (stopless_unread at q l both.1)
 
 -- a list of events with no Stop adds its ticks, and no Stop
 record Adds (es : List ℕ) (l l' : List Mark) : Type 0 where
@@ -255,7 +255,7 @@ adds (e ∷ es) h s m n =
     let y = mark_of x h in
     let both = and_split (not (is_stop_event (happening e))) (no_stop es) n in
     let r = adds es (x ∷ h) (event_of s m e).state (event_of s m e).memory both.1 in
-    let plain : is_stop_event (happening e) ≡ false = not_true (is_stop_event (happening e)) both.0 in
+    let plain : is_stop_event (happening e) ≡ false = not-true (is_stop_event (happening e)) both.0 in
     record {
       lines = r.lines ++ (y ∷ []);
       whole = r.whole ∙ sym (append_assoc r.lines (y ∷ []) (log_of h));

@@ -4,7 +4,7 @@
 -- line high, the line shows its bits one by one; and after the ninth clock only a write to the address can change it.
 use Prim.Native.Nat.{ℕ, zero, suc, ◌≤◌, ◌<◌}
 use mathlib.Core.Path.{◌≡◌, refl, sym, ap, ◌∙◌, subst}
-use mathlib.Core.Bool.{Bool, true, false, cond, not, ◌&&◌, and_false}
+use mathlib.Core.Bool.{Bool, true, false, cond, not, ◌&&◌, and-false}
 use mathlib.Core.List.{List, [], ◌∷◌, ◌++◌}
 use native.Mathlib.Omega.{arith}
 use lib.Dec.{eqb, ltb}
@@ -241,7 +241,7 @@ since_keeps a s m (y ∷ since) x h w n =
 
 -- the ninth clock of a read stores nothing
 read_stores_nothing : (x : Moment) (a k b : ℕ) → x.state.phase ≡ Read Memory k b → not (writes_to a x) ≡ true
-read_stores_nothing x a k b p = rw (p, and_false (is_clock (happened x)))
+read_stores_nothing x a k b p = rw (p, and-false (is_clock (happened x)))
 
 pub holds_one : HoldsOne
 holds_one at s m es i r high unwritten small =

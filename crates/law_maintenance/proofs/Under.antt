@@ -11,7 +11,7 @@ use mathlib.Core.List.{List, [], ◌∷◌}
 use native.Mathlib.Omega.{arith}
 use native.Mathlib.Numerals.{add-one}
 use lib.Dec.{eqb, ltb}
-use borrow.Author.Tests.{eqb-true, ltb_true}
+use borrow.Author.Tests.{eqb-true, ltb-true}
 use Rattle.wire.specs.Bits.{Place, first, within, last, ack, place_at, pushed}
 use Rattle.wire.specs.Slave.{opened, slave_names}
 use Rattle.wire.specs.Clock.{Receiver, Sender, kept, received_at, more, sent_at}
@@ -120,7 +120,7 @@ module _ (Q : ℕ → ℕ → Type 0) (q : Q 0 0) where
         subst (λ (z : Bool). Sent (cond z first (cond (ltb k 7) within (cond (eqb k 7) last ack)))) (sym t) one)
         (λ t. subst (λ (z : Bool). Sent (cond z first (cond (ltb k 7) within (cond (eqb k 7) last ack)))) (sym t)
         (by_test (ltb k 7)
-        (λ u. let l = ltb_true k 7 u in
+        (λ u. let l = ltb-true k 7 u in
         subst (λ (z : Bool). Sent (cond z within (cond (eqb k 7) last ack))) (sym u)
         (subst (λ (i : ℕ). Q i b) (sym (add-one k)) (sending t (omega arith))))
         (λ u. subst (λ (z : Bool). Sent (cond z within (cond (eqb k 7) last ack))) (sym u)

@@ -2,7 +2,7 @@
 -- Who may do which events: the six standings of holder and caller one by one; the events by their bytes.
 use Prim.Native.Nat.{ℕ, zero, suc, ◌≤◌, ◌<◌}
 use mathlib.Core.Path.{◌≡◌, refl, ap}
-use mathlib.Core.Bool.{true, false, or_true}
+use mathlib.Core.Bool.{true, false, or-true}
 use mathlib.Core.List.{List, [], ◌∷◌, ◌++◌}
 use native.Mathlib.Omega.{arith}
 use lib.Dec.{leb}
@@ -31,7 +31,7 @@ known (e ∷ es) h = and_join (leb e 7) (all_known es) (le-leb e 7 h.0) (known e
 -- events of the bus, and none of them
 some_bus : (before after : List ℕ) (e : ℕ) → e ≤ 3 → any_bus (before ++ (e ∷ after)) ≡ true
 some_bus [] after e h = rw (bus_byte_lem e, le-leb e 3 h)
-some_bus (y ∷ before) after e h = rw (some_bus before after e h) (or_true (is_bus (happening y)))
+some_bus (y ∷ before) after e h = rw (some_bus before after e h) (or-true (is_bus (happening y)))
 
 no_bus : (es : List ℕ) → Each (λ e. 3 < e) es → any_bus es ≡ false
 no_bus [] h = refl
@@ -73,7 +73,7 @@ not_held_lem h x i m es a before after e low some top other handed cut bus =
 
 pub neither : Neither
 neither h x i m es a low some top handed quiet =
-    let may : may_call (holder_of h) (master_of x) es ≡ true = rw (no_bus es quiet) (or_true (holds (holder_of h) (master_of x))) in
+    let may : may_call (holder_of h) (master_of x) es ≡ true = rw (no_bus es quiet) (or-true (holds (holder_of h) (master_of x))) in
     ap (λ (o : CallOutcome). o.run)
     (call_ran (h ∷ []) x i m es a handed.memory handed.state (decoded i m es handed) (holder_of h) (master_of x)
     (stands h x low some top) (known es handed.events) may)

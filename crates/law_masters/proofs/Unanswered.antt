@@ -2,7 +2,7 @@
 -- A slave or address byte that went unacknowledged: its line is high, so the transaction was not opened.
 use Prim.Native.Nat.{ℕ, zero, suc, ◌+◌, ◌*◌, ◌%◌}
 use mathlib.Core.Path.{◌≡◌, refl, ap, ◌∙◌}
-use mathlib.Core.Bool.{false, not, and_false}
+use mathlib.Core.Bool.{false, not, and-false}
 use mathlib.Core.List.{List, [], ◌∷◌, ◌++◌}
 use native.Mathlib.Omega.{arith}
 use lib.ListN.{length, get_or, drop, replicate, get_or-map, length-replicate}
@@ -19,13 +19,13 @@ not_low answers k h = ap not (get_or-map is_high answers k 1 ∙ eq-eqb (get_or 
 module _ (answers : List ℕ) where
   shut : (k : ℕ) → Opening k → get_or answers k 1 % 2 ≡ 1 → is_open (lines_of answers) ≡ false
   shut k slave h = rw (not_low answers 9 h)
-  shut k high h = rw (not_low answers 18 h) (and_false (is_low (lines_of answers) 9))
+  shut k high h = rw (not_low answers 18 h) (and-false (is_low (lines_of answers) 9))
   shut k low h =
-      rw (not_low answers 27 h, and_false (is_low (lines_of answers) 18)) (and_false (is_low (lines_of answers) 9))
+      rw (not_low answers 27 h, and-false (is_low (lines_of answers) 18)) (and-false (is_low (lines_of answers) 9))
 
   shut_read : (k : ℕ) → OpeningRead k → get_or answers k 1 % 2 ≡ 1 → is_open_read (lines_of answers) ≡ false
   shut_read k (first o) h = rw (shut k o h)
-  shut_read k second h = rw (not_low answers 37 h) (and_false (is_open (lines_of answers)))
+  shut_read k second h = rw (not_low answers 37 h) (and-false (is_open (lines_of answers)))
 
   -- no flag is set
   no_flags : is_open (lines_of answers) ≡ false → (n : ℕ) → flags_of n (lines_of answers) ≡ replicate n 0

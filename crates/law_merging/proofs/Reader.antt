@@ -11,7 +11,7 @@ use mathlib.Core.Bool.{Bool, true, false, cond}
 use mathlib.Core.List.{List, [], ◌∷◌, ◌++◌}
 use native.Mathlib.Omega.{arith}
 use lib.Dec.{eqb, ltb}
-use borrow.Author.Tests.{ltb_true, ltb-false, eqb-true, eqb-false}
+use borrow.Author.Tests.{ltb-true, ltb-false, eqb-true, eqb-false}
 use Rattle.wire.specs.Bits.{pushed, Place, first, within, last, ack, place_at}
 use Rattle.wire.specs.Machine.{Parts, Line, start, stop, clock, line, tick}
 use Rattle.law_merging.specs.Merge.{Reader, between, calling, moving, onward, next}
@@ -31,7 +31,7 @@ read_on q (x ∷ xs) = read_on (next q x) xs
 onward_early : (k b : ℕ) (d : Bool) (x y z : Bool) → eqb k 0 ≡ x → ltb k 7 ≡ y → eqb k 7 ≡ z
     → Early (onward (cond x first (cond y within (cond z last ack))) k b d)
 onward_early k b d true y z p q r = omega (arith, eqb-true k 0 p)
-onward_early k b d false true z p q r = omega (arith, ltb_true k 7 q)
+onward_early k b d false true z p q r = omega (arith, ltb-true k 7 q)
 onward_early k b d false false true p q r = tt
 onward_early k b d false false false p q r = tt
 

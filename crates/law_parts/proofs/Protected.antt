@@ -9,7 +9,7 @@ use mathlib.Core.List.{List, [], ◌∷◌}
 use lib.Dec.{ltb, eqb}
 use lib.ListN.{get_or}
 use lib.Seq.{get_or-set_other}
-use borrow.Author.Tests.{ltb_true, ltb-false, eqb-true, eqb-false}
+use borrow.Author.Tests.{ltb-true, ltb-false, eqb-true, eqb-false}
 use Rattle.wire.specs.Bits.{pushed}
 use Rattle.wire.specs.Clock.{received}
 use Rattle.wire.specs.Kinds.{memory_byte}
@@ -59,7 +59,7 @@ module _ (size : ℕ) (names : ℕ → Named) (D : Desks) where
         → Now (received (memory_byte (put_byte size (D.guard h.companion))) cells k b d).part.bytes
     data_change k b on p =
         let R = memory_byte (put_byte size (D.guard h.companion)) in
-        by_test (ltb k 7) (λ l. rw (received_inside R cells k b d (ltb_true k 7 l)) (same refl))
+        by_test (ltb k 7) (λ l. rw (received_inside R cells k b d (ltb-true k 7 l)) (same refl))
         (λ l. by_test (eqb k 7)
         (λ q. rw (received_last R cells k b d (eqb-true k 7 q))
         (put_change b on (p ∙ ap (λ (n : ℕ). Write Memory n b) (eqb-true k 7 q))))

@@ -75,7 +75,7 @@ time_writes c b l g w =
 
 module _ (a : ℕ) (m : List ℕ) where
   -- a data byte that the companion takes so
-  taken : (c k : Desk) (b : ℕ) → b < 256 → store_of c b ≡ record { companion = k; acknowledged = true }
+  pub taken : (c k : Desk) (b : ℕ) → b < 256 → store_of c b ≡ record { companion = k; acknowledged = true }
       → Leads (on_bus (Write Companion 0 0) a c) m (nine_clocks b true) (on_bus (Write Companion 0 0) a k) m (nine_bits b false)
   taken c k b l e =
       subst (λ (t : Taken). Leads (on_bus (Write Companion 0 0) a c) m (nine_clocks b true)

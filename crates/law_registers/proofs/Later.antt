@@ -3,7 +3,7 @@
 -- that the same ticks raise where none was.
 use Prim.Native.Nat.{ℕ, zero, suc, ◌+◌}
 use mathlib.Core.Path.{◌≡◌, refl, sym, ap, subst, ◌∙◌}
-use mathlib.Core.Bool.{Bool, true, false, cond, ◌&&◌, ◌||◌, or_assoc, or_false}
+use mathlib.Core.Bool.{Bool, true, false, cond, ◌&&◌, ◌||◌, or_assoc, or-false}
 use mathlib.Core.List.{List, [], ◌∷◌}
 use Rattle.bits.specs.Weight.{has}
 use Rattle.wire.specs.Bits.{place_at}
@@ -135,8 +135,8 @@ later_flags s t m n on u =
       trim = u.trim;
       alarm = u.alarm;
       core = u.core;
-      af_or = sym (or_false (has x 0x40)) ∙ ap (λ (z : Bool). has x 0x40 || z) (sym u.af);
-      cf_or = sym (or_false (has x 0x20)) ∙ ap (λ (z : Bool). has x 0x20 || z) (sym u.cf);
+      af_or = sym (or-false (has x 0x40)) ∙ ap (λ (z : Bool). has x 0x40 || z) (sym u.af);
+      cf_or = sym (or-false (has x 0x20)) ∙ ap (λ (z : Bool). has x 0x20 || z) (sym u.cf);
     }))
 
 module _ (a : ℕ) (m : List ℕ) (c : Desk) (b n₀ n₁ n₂ n₃ n₄ n₅ n₆ n₇ : ℕ) (d₀ d₁ d₂ d₃ d₄ d₅ d₆ d₇ : Bool) where

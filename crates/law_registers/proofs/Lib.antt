@@ -12,6 +12,7 @@ pub mod Going
 pub mod Put
 pub mod Ways
 pub mod Setting
+pub mod SetAmong
 pub mod ReadOut
 pub mod Later
 pub mod UnderWay

@@ -3,7 +3,7 @@
 -- fixed as it was then.
 use Prim.Native.Nat.{ℕ, ◌+◌, ◌*◌, ◌/◌, ◌%◌, ◌≤◌}
 use mathlib.Core.Path.{◌≡◌, refl, sym, ap, subst, ◌∙◌}
-use mathlib.Core.Bool.{Bool, true, false, cond, ◌&&◌, ◌||◌, or_true}
+use mathlib.Core.Bool.{Bool, true, false, cond, ◌&&◌, ◌||◌, or-true}
 use mathlib.Core.List.{List, ◌++◌}
 use native.Mathlib.Omega.{arith}
 use lib.Dec.{lit≤}
@@ -132,7 +132,7 @@ untorn s m up ks n on byte low r good =
     let written = control_goes a m s.phase c c₁ up byte (control_stored c up good) in
     let held : (has c₁.registers.control 0x02 || has c₁.registers.control 0x01) ≡ true =
     ap (λ (z : Bool). has c₁.registers.control 0x02 || z) (control_r c.registers.control up ∙ r)
-    ∙ or_true (has c₁.registers.control 0x02) in
+    ∙ or-true (has c₁.registers.control 0x02) in
     let frozen : Frozen c₁.core c₁ = record { time = frozen_core (with_address c 0) up low r; holds = held } in
     let opened = (opening c₁.core a m Idle).walk ks c₁ frozen in
     let go = goes_then written opened.run in

@@ -4,6 +4,7 @@ pub mod Fixed
 pub mod Written
 pub mod Held
 pub mod Setting
+pub mod SetAmong
 pub mod ReadOut
 pub mod Later
 pub mod UnderWay

@@ -5,7 +5,7 @@ use mathlib.Core.Path.{◌≡◌, refl, ap, ◌∙◌}
 use mathlib.Core.Bool.{Bool, true, false, ◌&&◌}
 use native.Mathlib.Omega.{arith}
 use lib.Dec.{eqb, ltb}
-use borrow.Author.Tests.{eq-eqb, ne_eqb, lt-ltb, le-ltb, ltb_true, ltb-false, eqb-true, eqb-false}
+use borrow.Author.Tests.{eq-eqb, ne_eqb, lt-ltb, le-ltb, ltb-true, ltb-false, eqb-true, eqb-false}
 use Rattle.wire.proofs.Tests.{by_test}
 use Rattle.set_event.specs.Set.{Together, Place, first, second, third, fourth, number_of, at, hears, own_byte}
 use Rattle.set_event.specs.Set.{done_in, after_own, after_at, line_at, after_event}
@@ -85,7 +85,7 @@ line_high : (t : Together) (v : Place) (e : ℕ) → e ≤ 7 → (OnLine t v →
     → line_at t.set.count (number_of v) (at v t) e ≡ true
 line_high t v e l h =
     by_test (ltb (number_of v) t.set.count)
-    (λ z. let on = ltb_true (number_of v) t.set.count z in
+    (λ z. let on = ltb-true (number_of v) t.set.count z in
     rw (hears_all t.set.count (number_of v) e on l, own_low e l) (h on))
     (λ z. rw (hears_none t.set.count (number_of v) e (ltb-false (number_of v) t.set.count z)) refl)
 

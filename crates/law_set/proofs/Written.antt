@@ -10,7 +10,7 @@ use lib.Dec.{ltb}
 use lib.ListN.{length, take, drop}
 use lib.Seq.{paste, take_all, length-take-le, take-append-le, drop-append-le, take-take, drop-drop, take-add, take_at}
 use lib.Seq.{drop_at, length-paste, length_paste_head, drop-paste}
-use borrow.Author.Tests.{ltb_true}
+use borrow.Author.Tests.{ltb-true}
 use Rattle.bits.proofs.Cases.{by_cond}
 use Rattle.fm31.specs.declared.State.{State}
 use Rattle.set_event.specs.Set.{Together, Place, first, second, third, fourth, number_of, at}
@@ -72,7 +72,7 @@ module _ (d s : List ℕ) (long : length s ≡ image_size) (w : ℕ) (room : ima
 -- of n devices, one image written
 module _ (n : ℕ) (w : ℕ) (s : State) (images : List ℕ) (long : length images ≡ image_size * n) where
   fits : ltb w n ≡ true → image_size * w + image_size ≤ length images
-  fits t = let l = ltb_true w n t in omega (arith, long)
+  fits t = let l = ltb-true w n t in omega (arith, long)
 
   in_long : length (image_in n w s images) ≡ image_size * n
   unfolding image_in

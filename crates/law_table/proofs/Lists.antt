@@ -2,7 +2,7 @@
 -- The list run under each number: the ways through its tests.
 use Prim.Native.Nat.{ℕ, ◌<◌}
 use mathlib.Core.Path.{◌≡◌, refl, ap, ◌∙◌}
-use mathlib.Core.Bool.{true, false, and_false}
+use mathlib.Core.Bool.{true, false, and-false}
 use mathlib.Core.List.{List, [], ◌∷◌, ◌++◌}
 use lib.Dec.{leb}
 use borrow.Author.Tests.{le-leb, lt-leb}
@@ -27,7 +27,7 @@ known (e ∷ es) h = and_join (leb e 7) (all_known es) (le-leb e 7 h.0) (known e
 unknown : (before after : List ℕ) (e : ℕ) → 7 < e → all_known (before ++ (e ∷ after)) ≡ false
 unfolding list.all_known
 unknown before after e h =
-    known_append before (e ∷ after) ∙ rw (lt-leb e 7 h) (and_false (all_known before))
+    known_append before (e ∷ after) ∙ rw (lt-leb e 7 h) (and-false (all_known before))
 
 pub every_list_number : EveryListNumber
 every_list_number i m es a =

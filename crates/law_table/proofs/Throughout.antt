@@ -7,7 +7,7 @@ use mathlib.Core.Path.{◌≡◌, refl, ap, ◌∙◌}
 use mathlib.Core.Bool.{Bool, true}
 use mathlib.Core.List.{List, [], ◌∷◌, ◌++◌, append_assoc}
 use lib.Dec.{ltb, eqb}
-use borrow.Author.Tests.{ltb_true, ltb-false, eqb-true, eqb-false}
+use borrow.Author.Tests.{ltb-true, ltb-false, eqb-true, eqb-false}
 use Rattle.wire.specs.Bits.{pushed}
 use Rattle.wire.specs.Clock.{Receiver, received, sent}
 use Rattle.wire.specs.Kinds.{pointer_byte, companion_byte, companion_read}
@@ -59,7 +59,7 @@ module _ (c : Desk) (k b : ℕ) (d : Bool) where
   -- a byte that it receives, but where the byte is taken and that changes the protection
   received_guard : (R : Receiver Desk) → (k ≡ 7 → guard_of (R.take c (pushed b d)).next ≡ guard_of c)
       → guard_of (received R c k b d).part ≡ guard_of c
-  received_guard R taken = by_test (ltb k 7) (λ l. rw (received_inside R c k b d (ltb_true k 7 l)) refl)
+  received_guard R taken = by_test (ltb k 7) (λ l. rw (received_inside R c k b d (ltb-true k 7 l)) refl)
       (λ l. by_test (eqb k 7)
       (λ q. rw (received_last R c k b d (eqb-true k 7 q)) (taken (eqb-true k 7 q)))
       (λ q. rw (received_ack R c k b d (ltb-false k 7 l) (eqb-false k 7 q)) refl))
@@ -68,7 +68,7 @@ module _ (c : Desk) (k b : ℕ) (d : Bool) where
   read_guard =
       let S = companion_read load_of loaded_of in
       by_test (eqb k 0) (λ z. rw (sent_first S c k b d (eqb-true k 0 z)) refl)
-      (λ z. by_test (ltb k 7) (λ l. rw (sent_within S c k b d (eqb-false k 0 z) (ltb_true k 7 l)) refl)
+      (λ z. by_test (ltb k 7) (λ l. rw (sent_within S c k b d (eqb-false k 0 z) (ltb-true k 7 l)) refl)
       (λ l. by_test (eqb k 7)
       (λ q. rw (sent_last S c k b d (eqb-true k 7 q)) (loaded_guard c b))
       (λ q. rw (sent_ack S c k b d (ltb-false k 7 l) (eqb-false k 7 q)) refl)))

@@ -2,6 +2,8 @@
 // Runs the proved calendar and prints what it does: the calendar's cases of the table, K1 to K7, on the dates that
 // calendar/specs/Cases has, and then, for every year of the century, a sum over all its midnights. What it prints is
 // compared with what the second program says.
+#![tactic(auto)]
+
 use calendar::{Advanced, Calendar};
 use libc::STDOUT_FILENO;
 
@@ -127,7 +129,7 @@ fn print_year(year: u8, sum: u32) {
 }
 
 // How far the walk through the century came: the last second of a day, and the sum over the midnights before it.
-#[derive(Drop)]
+#[derive(Clone, Copy)]
 struct Walk {
     today: Calendar,
     sum: u32,

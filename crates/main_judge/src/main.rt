@@ -5,6 +5,8 @@
 //   answer 3 differs: recorded 05, right 04      (answers are counted from 0)
 //   entry 2 is faulty                            (entries are counted from 1)
 //   too long
+#![tactic(auto)]
+
 use c_judge::Verdict;
 use c_judge::judge::judge;
 use libc::{STDIN_FILENO, STDOUT_FILENO};

@@ -2,6 +2,8 @@
 // The lamps as a program: events on standard input, one byte each, at most 65,536; FFh is no event and stands for a fresh
 // device with a memory of zeros and the record before any event. Each time the report changes a line is written: the place
 // of the byte in the input, counted from 0, and the report in hex, bit k for lamp k.
+#![tactic(auto)]
+
 use bus_image::bytes::clear;
 use c_lamps::run::fm3130_lamps;
 use c_run::run::fm3130_fresh;

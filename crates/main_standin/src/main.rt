@@ -10,6 +10,8 @@
 // the entry for a state by value. Where the two differ a line says so, which no expected output has.
 //
 // It ends with its input, or at a frame that is cut short.
+#![tactic(auto)]
+
 ghost use Rattle.std.specs.Prelude.{◌≤◌, length};
 
 use bus_image::bytes::{clear, copy, same};
@@ -85,7 +87,7 @@ fn read_events(events: &mut [u8], length: usize) -> bool {
 }
 
 // What one event by value leaves, and whether it was answered as the list run answered it.
-#[derive(Drop)]
+#[derive(Clone, Copy)]
 struct Step {
     state: State,
     alike: bool,

@@ -2,7 +2,7 @@
 -- The loops over a call's events, one event more and at the end: whether some is one of the bus, and whether they free it.
 use Prim.Native.Nat.{ℕ, suc, ◌+◌, ◌≤◌, ◌<◌}
 use mathlib.Core.Path.{◌≡◌, refl}
-use mathlib.Core.Bool.{Bool, ◌||◌, or_assoc, or_false}
+use mathlib.Core.Bool.{Bool, ◌||◌, or_assoc, or-false}
 use mathlib.Core.List.{List}
 use native.Mathlib.Omega.{arith}
 use native.Mathlib.Numerals.{add-one}
@@ -37,7 +37,7 @@ module _ (es : List ℕ) (i : ℕ) (k : Bool) where
       rw (add-one, drop-cons es i 0, bus_byte_lem (get_or es i 0)) (or_assoc k (leb (get_or es i 0) 3) (any_bus (drop (suc i) es)))
 
   pub any_end : length es ≤ i → (k || any_bus (drop i es)) ≡ k
-  any_end h = rw (drop_of_length-le es h) (or_false k)
+  any_end h = rw (drop_of_length-le es h) (or-false k)
 
   pub frees_more : i < length es → frees (freed_by k (happening (get_or es i 0))) (drop (i + 1) es) ≡ frees k (drop i es)
   frees_more h = rw (add-one, drop-cons es i 0) refl

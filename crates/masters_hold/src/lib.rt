@@ -2,23 +2,25 @@
 // Who holds a bus that two masters share.
 //
 // bus   the lent byte that says it, what a master may do with the bus, and when a list of events frees it
+#![tactic(auto)]
+
 pub mod bus;
 
 // The rig's own controller, and the maintainer's handheld.
-#[derive(Drop)]
+#[derive(Clone, Copy)]
 pub enum Master {
     Rig,
     Handheld,
 }
 
-#[derive(Drop)]
+#[derive(Clone, Copy)]
 pub enum Holder {
     Nobody,
     Held(Master),
 }
 
 // What the lent byte and a master's number say: who holds the bus and who speaks, if both exist.
-#[derive(Drop)]
+#[derive(Clone, Copy)]
 pub enum Standing {
     Known { holder: Holder, master: Master },
     Unknown,

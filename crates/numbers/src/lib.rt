@@ -1,6 +1,7 @@
 // SPDX-License-Identifier: Apache-2.0
 // The numbers of 01's table, each given exactly when its line says, and after them those of 02's requests; all entries of all
 // parts take them from here.
+#![tactic(auto)]
 
 // none below
 pub const ACCEPTED: u8 = 0;

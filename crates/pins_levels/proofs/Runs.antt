@@ -5,7 +5,7 @@ use mathlib.Core.Path.{◌≡◌, refl, sym, ap, subst, ◌∙◌}
 use mathlib.Core.Bool.{Bool, true, false, cond, ◌&&◌, and-true}
 use mathlib.Core.List.{List, [], ◌∷◌, ◌++◌, append_assoc, append-nil}
 use lib.Dec.{ltb}
-use borrow.Author.Tests.{lt-ltb, le-ltb, ltb_true, ltb-false}
+use borrow.Author.Tests.{lt-ltb, le-ltb, ltb-true, ltb-false}
 use native.Mathlib.Omega.{arith}
 use Rattle.pins_levels.proofs.Facts.{and_both}
 use Rattle.pins_levels.specs.Look.{known}
@@ -49,4 +49,4 @@ known_some e h = let l = ltb-false 7 e h in rw (lt-ltb e 8 (omega arith))
 
 pub known_none : (e : ℕ) → ltb 7 e ≡ true → known e ≡ []
 unfolding known
-known_none e h = let l = ltb_true 7 e h in rw (le-ltb e 8 (omega arith))
+known_none e h = let l = ltb-true 7 e h in rw (le-ltb e 8 (omega arith))

@@ -6,7 +6,7 @@ use mathlib.Core.Bool.{Bool, true, false, cond, beq, true≢false}
 use mathlib.Core.List.{List, [], ◌∷◌, ◌++◌}
 use lib.Dec.{eqb, ltb, leb}
 use native.Mathlib.Omega.{arith}
-use borrow.Author.Tests.{eq-eqb, ne_eqb, eqb-true, eqb-false, ltb_true, ltb-false, lt-ltb, le-ltb, le-leb}
+use borrow.Author.Tests.{eq-eqb, ne_eqb, eqb-true, eqb-false, ltb-true, ltb-false, lt-ltb, le-ltb, le-leb}
 use Rattle.pins_levels.proofs.Facts.{by_test}
 use Rattle.pins_levels.specs.Look.{Readings, was_high, left, late, unknown, stayed, seen_by, look_of, driven_of, handed_to, hand_of, events_of}
 use Rattle.pins_levels.specs.Session.{Part, is_told, Stood, stood, asked, settled_on, settled, Deed, saw, told, step}

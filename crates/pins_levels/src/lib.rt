@@ -2,6 +2,8 @@
 // The two wires as a slave sees them, free of any part: looks at SCL and SDA become events, ticks and power events wait for
 // the end of a pulse, and a token says whether SDA is to be pulled. Nothing here touches an image or a memory, so SDA is
 // turned before an event is done.
+#![tactic(auto)]
+
 pub mod packed;
 
 ghost use Rattle.std.specs.Prelude.{◌≡◌, cond};
@@ -12,7 +14,7 @@ ghost use Rattle.pins_levels.specs.Look.{driven_of, asks, hung, hand_of};
 
 // What one look sees. SDA is read between two readings of SCL: SCL is low; it was high and fell meanwhile, so that SDA may
 // be the next clock's; it was high both times, and SDA had this level.
-#[derive(Drop)]
+#[derive(Clone, Copy)]
 pub enum Seen {
     Low,
     Fell,
@@ -20,7 +22,7 @@ pub enum Seen {
 }
 
 // What is known between two looks.
-#[derive(Drop)]
+#[derive(Clone, Copy)]
 pub struct Token {
     // SCL was high at the last look
     pub scl: bool,
@@ -43,7 +45,7 @@ pub struct Token {
 }
 
 // The token, and up to three events that are to be done now, in this order; 8 is none.
-#[derive(Drop)]
+#[derive(Clone, Copy)]
 pub struct Due {
     pub token: Token,
     pub first: u8,

@@ -3,5 +3,7 @@
 //
 // receive  a Clock in a byte that comes in
 // send     a Clock in a byte that goes out, and any Clock
+#![tactic(auto)]
+
 pub mod receive;
 pub mod send;

@@ -1,6 +1,8 @@
 // SPDX-License-Identifier: Apache-2.0
 // The companion in a transfer where it lies, in its image: a register at its address, the core behind the registers, the
 // companion's own address behind the core. Nothing is read out of the image to be written back.
+#![tactic(auto)]
+
 ghost use Rattle.std.specs.Prelude.{◌≡◌, ◌≤◌, length, get_or};
 ghost use Rattle.fm3130_registers.specs.Map.{LAST};
 ghost use Rattle.fm3130_companion.specs.Part.{aim_of, store_of, load_of, loaded_of};

@@ -1,5 +1,7 @@
 // SPDX-License-Identifier: Apache-2.0
 // What of a list of events is done next: a row of them where there is one, or one event.
+#![tactic(auto)]
+
 ghost use Rattle.std.specs.Prelude.{◌≡◌, true, false, cond, ◌/◌, ◌<◌, ◌≤◌, eqb, length, get_or};
 ghost use Rattle.bus_image.specs.Places.{IDLE, PHASE_AT};
 ghost use Rattle.fm3130_image.specs.Image.{candidate};

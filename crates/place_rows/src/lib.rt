@@ -1,6 +1,8 @@
 // SPDX-License-Identifier: Apache-2.0
 // Rows of events that are done together: Clocks inside a byte, Clocks that nobody hears, ticks of a core that was tested
 // once. Each function returns the place after the last event that it did.
+#![tactic(auto)]
+
 ghost use Rattle.std.specs.Prelude.{◌≡◌, true, ◌+◌, ◌/◌, ◌<◌, ◌≤◌, length, get_or, set};
 ghost use Rattle.bus_image.specs.Places.{IDLE, WRITE_COMPANION, READ_MEMORY, PHASE_AT, CLOCKS_AT, BYTE_AT};
 ghost use Rattle.fm3130_image.specs.Image.{image_size, candidate};

@@ -2,8 +2,8 @@
 -- A tick by its parts is the tick of the companion's definitions: the core moves, the flags rise, 02h to 08h follow. Where
 -- the seconds of a valid core are not 59 they alone move. A core that ticks ticks on.
 use Rattle.std.proofs.Common.{◌≡◌, ℕ, ◌+◌, ◌%◌, ◌<◌, ◌≤◌, Bool, true, false, cond, not, ◌&&◌, ◌||◌, eqb, List, set, sym, refl, ap, ◌∙◌, arith, ne_eqb, eqb-true}
-use mathlib.Core.Bool.{and_false}
-use borrow.Author.Tests.{eqb-false, not_true}
+use mathlib.Core.Bool.{and-false}
+use borrow.Author.Tests.{eqb-false, not-true}
 use Rattle.bits.specs.Weight.{has}
 use Rattle.calendar.specs.Field.{value, bcd, step_of}
 use Rattle.calendar.specs.Highest.{highest_of}
@@ -172,7 +172,7 @@ module _ (s : State) where
 
   pub ticks_stopped : has s.companion.registers.trim OSCEN ≡ true → false ≡ is_ticking s
   unfolding is_ticking
-  ticks_stopped t = rw (t, and_false (is_supplied s.power)) refl
+  ticks_stopped t = rw (t, and-false (is_supplied s.power)) refl
 
   pub ticks_valid : {r : Bool} → (power_number s.power ≡ 2 → ⊥) → has s.companion.registers.trim OSCEN ≡ false
       → r ≡ is_valid s.companion.core → r ≡ is_ticking s
@@ -187,7 +187,7 @@ module _ (s : State) (t : is_ticking s ≡ true) where
   ticking_parts =
       let p = and_split (is_supplied s.power && not (has s.companion.registers.trim OSCEN)) _ t in
       let q = and_split (is_supplied s.power) _ p.0 in
-      (q.0, (not_true _ q.1, p.1))
+      (q.0, (not-true _ q.1, p.1))
 
   pub ticking_tick : ticking.tick_of s.companion ≡ counted_of s.companion
   unfolding ticking.tick_of

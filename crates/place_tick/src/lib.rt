@@ -1,5 +1,7 @@
 // SPDX-License-Identifier: Apache-2.0
 // A one-second tick of the companion where it lies, in its image.
+#![tactic(auto)]
+
 ghost use Rattle.std.specs.Prelude.{◌≡◌, true, length};
 ghost use Rattle.calendar.specs.Next.{is_valid, next_of};
 ghost use Rattle.fm3130_companion.specs.Tick.{matches, counted_of};

@@ -6,10 +6,9 @@
 --   after_at, line_at                one event on one device of a set
 --   after_event, line_to             one event on the set: "the line is low if any pulls it low"
 --   after_events, lines_to           a list of events
-use Rattle.std.specs.Prelude.{ℕ, Bool, true, cond, ◌&&◌, List, [], ◌∷◌, ltb}
+use Rattle.std.specs.Prelude.{ℕ, Bool, true, cond, ◌&&◌, List, [], ◌∷◌, ltb, ◌+◌, ◌/◌, ◌||◌, eqb}
 use Rattle.fm31.specs.Chip.{size_of, Done, event_of}
 use Rattle.fm31.specs.Step.{state_of}
-use Rattle.fm31_run.specs.Seat.{hears_at}
 use Rattle.set_event.specs.declared.Member.{Member}
 use Rattle.set_event.specs.declared.Set.{Set}
 unfoldable pub use Rattle.fm31_run.specs.Seat.{own_byte}
@@ -54,9 +53,10 @@ size_in h = size_of h.member.size
 abbrev pub select_in : Held → ℕ
 select_in h = h.member.select
 
--- Of n devices, whether the one at place v hears an event: it is on the line, and hears it at its place.
+-- "Ticks and power events reach all four, and a counter edge names its device": of n devices, the one at place v
+-- hears event bytes 0 to 7; 8 and 9 are the first device's edges, 10 and 11 the second's, and so on.
 unfoldable pub hears : ℕ → ℕ → ℕ → Bool
-hears n v e = ltb v n && hears_at v e
+hears n v e = ltb v n && (ltb e 8 || eqb (e / 2) (v + 4))
 
 -- One event byte of its own on a device.
 abbrev pub done_in : (h : Held) → ℕ → Done (size_in h) (select_in h)

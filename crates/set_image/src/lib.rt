@@ -4,6 +4,8 @@
 //
 // read    the set that a plan and images hold
 // write   the images of a set
+#![tactic(auto)]
+
 use set_event::{Member, Set};
 
 pub mod read;
@@ -11,14 +13,14 @@ pub mod write;
 
 // What a plan and an image say of one device: whether they are good, and the device. Where the image is not, the size and
 // the select bits are the plan's all the same.
-#[derive(Drop)]
+#[derive(Clone, Copy)]
 pub struct Got {
     pub good: bool,
     pub member: Member,
 }
 
 // What a plan and images say of a set.
-#[derive(Drop)]
+#[derive(Clone, Copy)]
 pub struct Reading {
     pub good: bool,
     pub set: Set,

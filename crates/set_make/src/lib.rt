@@ -1,6 +1,8 @@
 // SPDX-License-Identifier: Apache-2.0
 // Which sets of devices of the larger family are refused when they are made, and how the devices of a set that runs on may
 // stand.
+#![tactic(auto)]
+
 ghost use Rattle.std.specs.Prelude.{◌≡◌, List, ℕ};
 ghost use Rattle.set_event.specs.Set.{held};
 ghost use Rattle.set_event.specs.Make.{is_lent, is_within, is_between, if_here, all_here, places_are};

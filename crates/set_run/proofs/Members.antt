@@ -4,10 +4,10 @@
 use Prim.Native.Nat.{ℕ, ◌≤◌, ◌<◌}
 use mathlib.Core.Path.{◌≡◌, refl, sym, ap, ◌∙◌}
 use mathlib.Core.Bool.{Bool, true, false, cond, ◌&&◌, and-true, and_assoc}
-use mathlib.Core.List.{List, [], ◌∷◌}
+use mathlib.Core.List.{List, [], ◌∷◌, ◌++◌}
 use native.Mathlib.Nat.{le_of_suc-le-suc, not-suc-le-zero}
 use lib.Dec.{eqb, ltb}
-use lib.ListN.{length}
+use lib.ListN.{length, drop, replicate}
 use borrow.Author.Tests.{lt-ltb}
 use Rattle.wire.proofs.Tests.{by_test}
 use Rattle.bus_list.specs.Run as list
@@ -208,4 +208,33 @@ all_ran t es a z h p q r s k l m o a₁ a₂ a₃ a₄ w x y u =
           (y.answers
           ∙ ap (joined_by n 2 (at third t) es) (x.answers ∙ ap (joined_by n 1 (at second t) es) w.answers))
           ∙ all_joined_lem t es a (lt-ltb 0 n z) h);
+    }
+
+-- no device on the line: the set stays as it is, and each answer is 1
+none_step : (t : Together) (e : ℕ) → t.set.count ≡ 0 → line_to t e ≡ true
+none_step t e z =
+    rw (
+      line_absent t.set.count 0 (at first t) e (rw z refl),
+      line_absent t.set.count 1 (at second t) e (rw z refl),
+      line_absent t.set.count 2 (at third t) e (rw z refl),
+      line_absent t.set.count 3 (at fourth t) e (rw z refl),
+    )
+
+none_answers : (t : Together) (es : List ℕ) → t.set.count ≡ 0 → (run_of t es).answers ≡ replicate (length es) 1
+unfolding run_of list.run_of
+none_answers t [] z = refl
+none_answers t (e ∷ es) z =
+    (λ i. answer_byte (none_step t e z i) ∷ (run_of (after_event t e) es).answers)
+    ∙ ap (λ (l : List ℕ). 1 ∷ l) (none_answers (after_event t e) es z)
+
+none_left : (t : Together) (es : List ℕ) → t.set.count ≡ 0 → (run_of t es).state ≡ t
+none_left t es z = all_left t es ∙ rw z refl
+
+pub none_ran : (t : Together) (es a : List ℕ) → t.set.count ≡ 0
+    → RanThrough t es a t (replicate (length es) 1 ++ drop (length es) a)
+none_ran t es a z =
+    record {
+      image = sym (none_left t es z);
+      memory = sym (run_memory t es);
+      answers = ap (λ (l : List ℕ). l ++ drop (length es) a) (sym (none_answers t es z));
     }

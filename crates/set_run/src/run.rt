@@ -1,6 +1,6 @@
 // SPDX-License-Identifier: Apache-2.0
 // A list of events on a set: on each device in turn, the answers joined.
-ghost use Rattle.std.specs.Prelude.{◌≡◌, ◌≤◌, ◌<◌, length};
+ghost use Rattle.std.specs.Prelude.{◌≡◌, ◌≤◌, ◌++◌, length, drop, replicate};
 ghost use Rattle.set_event.specs.Set.{most, held};
 ghost use Rattle.set_event.specs.Outcome.{lent_to, SetFit};
 ghost use Rattle.set_event.specs.Code.Outcome.{Fit};
@@ -52,7 +52,19 @@ fn run_member(
     member
 }
 
-// All events on one to four devices: the set they lead to. Each device does the whole list before the next one begins: none hears
+// No device is on the line, so it stays high: so many answers.
+fn leave_high(count: usize, answers: &mut [u8])
+    requires { count ≤ length answers.old }
+    ensures { answers.new ≡ replicate count 1 ++ drop count answers.old }
+{
+    let mut i = 0;
+    while i < count {
+        answers[i] = 1;
+        i += 1;
+    }
+}
+
+// All events on the devices of a set, one to four or none: the set they lead to. Each device does the whole list before the next one begins: none hears
 // what another does. The answers go to the front of their buffer.
 pub fn run_events(
     set: Set,
@@ -64,11 +76,15 @@ pub fn run_events(
     answers: &mut [u8],
 ) -> Set
     requires set_fit { SetFit (lent_to set one.old two.old three.old four.old) }
-    requires count_nonzero { (0 < set.count) × (length events.now ≤ length answers.old) }
+    requires room { length events.now ≤ length answers.old }
     ensures { RanThrough (lent_to set one.old two.old three.old four.old)
         events.now answers.old
         (lent_to result one.new two.new three.new four.new) answers.new }
 {
+    if set.count == 0 {
+        leave_high(events.len(), answers);
+        return set;
+    }
     let first = set.first;
     let second = set.second;
     let third = set.third;

@@ -6,7 +6,7 @@ use mathlib.Core.Path.{◌≡◌, refl, sym}
 use mathlib.Core.Bool.{Bool, true, false, cond, ◌&&◌}
 use native.Mathlib.Omega.{arith}
 use lib.Dec.{eqb, ltb}
-use borrow.Author.Tests.{lt-ltb, ltb_true, ltb-false, eqb-true, eqb-false}
+use borrow.Author.Tests.{lt-ltb, ltb-true, ltb-false, eqb-true, eqb-false}
 use Rattle.wire.specs.Bits.{pushed, sent_bit}
 use Rattle.wire.specs.Clock.{Half, half, Receiver, received, Sender, sent, more}
 use Rattle.wire.specs.Memory.{Cells}
@@ -33,7 +33,7 @@ module _ {A : Type 0} (R : Receiver A) (a : A) (k b : ℕ) (d : Bool) where
       ≡ seen (received R a k b d)
   received_seen g e =
       by_test (ltb k 7)
-      (λ l. let h = ltb_true k 7 l in
+      (λ l. let h = ltb-true k 7 l in
       rw (received_inside _ tt k b d h, received_inside R a k b d h, lt-ltb k 8 (omega arith)))
       (λ l. let h = ltb-false k 7 l in
       by_test (eqb k 7)
@@ -43,7 +43,7 @@ module _ {A : Type 0} (R : Receiver A) (a : A) (k b : ℕ) (d : Bool) where
   pub received_elsewhere : (k ≡ 7 → ⊥) → (received R a k b d).part ≡ a
   received_elsewhere n =
       by_test (ltb k 7)
-      (λ l. rw (received_inside R a k b d (ltb_true k 7 l)))
+      (λ l. rw (received_inside R a k b d (ltb-true k 7 l)))
       (λ l. rw (received_ack R a k b d (ltb-false k 7 l) n))
 
   pub received_eighth : k ≡ 7 → (received R a k b d).part ≡ (R.take a (pushed b d)).next
@@ -72,7 +72,7 @@ module _ {A : Type 0} (s : Side) (fetch : A → ℕ) (done : A → ℕ → A) (a
       (λ z. let e = eqb-true k 0 z in rw (sent_first (outgoing s (fetch a)) tt k b d e, sent_first S a k b d e))
       (λ z. let n = eqb-false k 0 z in
       by_test (ltb k 7)
-      (λ l. let h = ltb_true k 7 l in
+      (λ l. let h = ltb-true k 7 l in
       rw (sent_within (outgoing s (fetch a)) tt k b d n h, sent_within S a k b d n h))
       (λ l. let h = ltb-false k 7 l in
       by_test (eqb k 7)
@@ -85,7 +85,7 @@ module _ {A : Type 0} (s : Side) (fetch : A → ℕ) (done : A → ℕ → A) (a
       by_test (eqb k 0)
       (λ z. rw (sent_first S a k b d (eqb-true k 0 z)))
       (λ z. by_test (ltb k 7)
-      (λ l. rw (sent_within S a k b d (eqb-false k 0 z) (ltb_true k 7 l)))
+      (λ l. rw (sent_within S a k b d (eqb-false k 0 z) (ltb-true k 7 l)))
       (λ l. rw (sent_ack S a k b d (ltb-false k 7 l) n)))
 
   pub sent_eighth : k ≡ 7 → (sent S a k b d).part ≡ done a b

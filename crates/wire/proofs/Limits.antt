@@ -10,7 +10,7 @@ use native.Mathlib.Omega.{arith}
 use native.Mathlib.Nat.{pow-suc}
 use native.Mathlib.Numerals.{add-one}
 use lib.Dec.{leb, ltb, eqb}
-use borrow.Author.Tests.{ltb_true, ltb-false, leb-true, eqb-true, eqb-false, le-leb, lt-ltb, ne_eqb}
+use borrow.Author.Tests.{ltb-true, ltb-false, leb-true, eqb-true, eqb-false, le-leb, lt-ltb, ne_eqb}
 use Rattle.wire.specs.Bits.{pushed}
 use Rattle.wire.specs.Slave.{answers, opened}
 use Rattle.wire.specs.Clock.{Half, Taken, Receiver, received, kept, Sender, sent, more}
@@ -47,7 +47,7 @@ record Fits (k b : ℕ) : Type 0 where
 fits_of : (k b : ℕ) → bits_fit k b ≡ true → Fits k b
 unfolding bits_fit
 fits_of k b e =
-    let h = and_split (leb k 8) (ltb b (2 ^ k)) e in record { clocks = leb-true k 8 h.0; bits = ltb_true b (2 ^ k) h.1 }
+    let h = and_split (leb k 8) (ltb b (2 ^ k)) e in record { clocks = leb-true k 8 h.0; bits = ltb-true b (2 ^ k) h.1 }
 
 -- no device is touched
 abbrev pub Any : Unit {0} → Type 0
@@ -89,7 +89,7 @@ module _ (names : ℕ → Named) (legal : ℕ → Bool) where
       let f = fits_of k b e in
       let p = push_lt b d in
       by_test (ltb k 7)
-      (λ l. let h = ltb_true k 7 l in
+      (λ l. let h = ltb-true k 7 l in
       rw (received_inside R a k b d h)
       (record { phase = K.early (k + 1) (pushed b d) (omega arith) (push_fits k b d f.bits); part = o }))
       (λ l. let h = ltb-false k 7 l in
@@ -107,7 +107,7 @@ module _ (names : ℕ → Named) (legal : ℕ → Bool) where
       by_test (eqb k 0)
       (λ z. rw (sent_first S a k b d (eqb-true k 0 z)) (record { phase = K.under 0 (S.fetch a) (omega arith); part = o }))
       (λ z. by_test (ltb k 7)
-      (λ l. let h = ltb_true k 7 l in
+      (λ l. let h = ltb-true k 7 l in
       rw (sent_within S a k b d (eqb-false k 0 z) h) (record { phase = K.under k b (omega arith); part = o }))
       (λ l. let h = ltb-false k 7 l in
       by_test (eqb k 7)

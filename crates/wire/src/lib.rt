@@ -9,6 +9,8 @@
 // address   memory addresses, and the byte that takes one
 // storing   data bytes for the memory, and its protection
 // fetching  data bytes from the memory
+#![tactic(auto)]
+
 pub mod address;
 mod between;
 pub mod bits;
@@ -18,7 +20,7 @@ pub mod slave;
 pub mod storing;
 
 // The two devices in one part.
-#[derive(Drop)]
+#[derive(Clone, Copy)]
 pub enum Side {
     Memory,
     Companion,
@@ -26,7 +28,7 @@ pub enum Side {
 
 // Where a transfer stands: which byte is under way, and how many of its clocks, 0 to 8, are done.
 // An ended or refused transfer is Idle, so nothing of it is kept.
-#[derive(Drop)]
+#[derive(Clone, Copy)]
 pub enum Phase {
     // no transfer, or one that has ended
     Idle,
@@ -44,7 +46,7 @@ pub enum Phase {
 }
 
 // Whom a complete slave byte names, and for what.
-#[derive(Drop)]
+#[derive(Clone, Copy)]
 pub enum Named {
     Nobody,
     Reads(Side),
@@ -52,14 +54,14 @@ pub enum Named {
 }
 
 // What a clock leaves where no device is touched: the next phase, and the line.
-#[derive(Drop)]
+#[derive(Clone, Copy)]
 pub struct Turned {
     pub phase: Phase,
     pub line: bool,
 }
 
 // What a clock that serves the memory leaves: the next phase, the memory address, and the line.
-#[derive(Drop)]
+#[derive(Clone, Copy)]
 pub struct Moved {
     pub phase: Phase,
     pub address: u16,
@@ -67,7 +69,7 @@ pub struct Moved {
 }
 
 // What a whole data byte for the memory leaves: the memory address, and whether the byte is acknowledged.
-#[derive(Drop)]
+#[derive(Clone, Copy)]
 pub struct Put {
     pub address: u16,
     pub acknowledged: bool,

@@ -3,4 +3,6 @@
 // laid into a lent buffer.
 //
 // lay   events laid one after another
+#![tactic(auto)]
+
 pub mod lay;

@@ -1,6 +1,6 @@
 -- SPDX-License-Identifier: Apache-2.0
 use mathlib.Core.Path.{sym, ◌∙◌}
-use borrow.Author.Tests.{not_true, not-false}
+use borrow.Author.Tests.{not-true, not-false}
 use Rattle.c_pins.proofs.Ways.{begin_memory, begin_image, begin_done}
 use borrow.Author.Rules.{rules}
 use Rattle.c_pins.proofs.begin.Statement.{statement}
@@ -22,7 +22,7 @@ leave-requires-2 : tie.Need-leave-requires-2
 leave-requires-2 c κs = search rules
 
 returns-2 : tie.Need-returns-2
-returns-2 c = begin_image _ _ _ _ _ c.before.before.before.before.first.ensures c.before.before.before.if1.false (sym c.before.before.is-image.ensures ∙ not_true _ c.before.if2.true) c.leave2.ensures
+returns-2 c = begin_image _ _ _ _ _ c.before.before.before.before.first.ensures c.before.before.before.if1.false (sym c.before.before.is-image.ensures ∙ not-true _ c.before.if2.true) c.leave2.ensures
 
 ask-requires : tie.Need-ask-requires
 ask-requires c κs = record { image = sym c.before.is-image.ensures ∙ not-false _ c.if2.false; memory = c.before.before.if1.false }

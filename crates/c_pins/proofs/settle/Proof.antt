@@ -1,6 +1,6 @@
 -- SPDX-License-Identifier: Apache-2.0
 use mathlib.Core.Path.{sym, ◌∙◌}
-use borrow.Author.Tests.{not_true, not-false}
+use borrow.Author.Tests.{not-true, not-false}
 use Rattle.c_pins.proofs.Ran.{ran_accepted}
 use Rattle.c_pins.proofs.Ways.{settle_left, settle_idle, settle_memory, settle_image, settle_done}
 use borrow.Author.Rules.{rules}
@@ -32,7 +32,7 @@ same_length : tie.Need-same-length
 same_length c = search rules
 
 returns-4 : tie.Need-returns-4
-returns-4 c = settle_image _ _ _ c.before.before.before.before.before.before.before.if1.false (sym c.before.before.before.before.before.before.is-idle.ensures ∙ c.before.before.before.before.before.if2.false) _ c.before.before.before.before.if3.false (sym c.before.before.is-image.ensures ∙ not_true _ c.before.if4.true) c.leave2.ensures
+returns-4 c = settle_image _ _ _ c.before.before.before.before.before.before.before.if1.false (sym c.before.before.before.before.before.before.is-idle.ensures ∙ c.before.before.before.before.before.if2.false) _ c.before.before.before.before.if3.false (sym c.before.before.is-image.ensures ∙ not-true _ c.before.if4.true) c.leave2.ensures
 
 thrice-requires : tie.Need-thrice-requires
 thrice-requires c κs = record { image = sym c.before.before.before.is-image.ensures ∙ not-false _ c.before.before.if4.false; memory = c.before.before.before.before.before.if3.false }

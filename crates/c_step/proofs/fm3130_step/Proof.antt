@@ -4,7 +4,7 @@ use mathlib.Core.Path.{◌≡◌, sym, ◌∙◌}
 use mathlib.Core.Bool.{true}
 use lib.ListN.{length}
 use borrow.Author.Rules.{rules}
-use borrow.Author.Tests.{not_true, not-false}
+use borrow.Author.Tests.{not-true, not-false}
 use Rattle.fm3130.specs.Chip.{memory_size}
 use Rattle.fm3130_image.specs.Code.Accepting.{is_image}
 use Rattle.fm3130_image.proofs.Accepts.{image_read, image_not_read}
@@ -39,7 +39,7 @@ same_length c = search rules
 
 returns-2 : tie.Need-returns-2
 returns-2 c =
-    let b = image_not_read _ (sym c.before.is-image.ensures ∙ not_true _ c.if2.true) in
+    let b = image_not_read _ (sym c.before.is-image.ensures ∙ not-true _ c.if2.true) in
     sym (single_wrong_image _ _ _ _ c.before.before.before.if1.false b)
 
 cast-result-3 : tie.Need-overflow-cast-result-3

@@ -3,7 +3,7 @@
 use mathlib.Core.Path.{◌≡◌, sym, ◌∙◌}
 use mathlib.Core.Bool.{true}
 use borrow.Author.Rules.{rules}
-use borrow.Author.Tests.{not_true, not-false}
+use borrow.Author.Tests.{not-true, not-false}
 use Rattle.set_event.specs.Set.{Together}
 use Rattle.set_event.specs.Make.{is_lent, is_within, places_are, selects_differ, count_fits}
 use Rattle.set_event.specs.Outcome.{lent_to}
@@ -48,7 +48,7 @@ is-count-requires c κs = search rules
 returns : tie.Need-returns
 returns c =
     sym (make_wrong_count (lent_of c.before.before.before.before.before.before)
-    (sym c.before.is-count.ensures ∙ not_true _ c.if1.true))
+    (sym c.before.is-count.ensures ∙ not-true _ c.if1.true))
 
 are-lent-requires : tie.Need-are-lent-requires
 are-lent-requires c κs = search rules
@@ -56,7 +56,7 @@ are-lent-requires c κs = search rules
 returns-2 : tie.Need-returns-2
 returns-2 c =
     let f = c.before.before in
-    sym (make_wrong_memory (setIn f) (fits f) (sym c.before.are-lent.ensures ∙ not_true _ c.if2.true))
+    sym (make_wrong_memory (setIn f) (fits f) (sym c.before.are-lent.ensures ∙ not-true _ c.if2.true))
 
 are-within-requires : tie.Need-are-within-requires
 are-within-requires c κs = search rules
@@ -66,7 +66,7 @@ returns-3 c =
     let l = c.before.before in
     let f = fitsBefore l in
     sym (make_wrong_state (setIn f) (fits f) (lent l)
-    (sym (c.before.are-within.ensures _ _ _ _) ∙ not_true _ c.if3.true))
+    (sym (c.before.are-within.ensures _ _ _ _) ∙ not-true _ c.if3.true))
 
 selects-differ-requires : tie.Need-selects-differ-requires
 selects-differ-requires c κs = search rules
@@ -77,7 +77,7 @@ returns-4 c =
     let l = lentBefore w in
     let f = fitsBefore l in
     sym (make_equal_selects (setIn f) (fits f) (lent l) (within w)
-    (sym (c.before.selects-differ.ensures _ _ _ _) ∙ not_true _ c.if4.true))
+    (sym (c.before.selects-differ.ensures _ _ _ _) ∙ not-true _ c.if4.true))
 
 are-between-requires : tie.Need-are-between-requires
 are-between-requires c κs = search rules
@@ -89,7 +89,7 @@ returns-5 c =
     let l = lentBefore w in
     let f = fitsBefore l in
     sym (make_in_transfer (setIn f) (fits f) (lent l) (within w) (unlike u)
-    (sym (c.before.are-between.ensures _ _ _ _) ∙ not_true _ c.if5.true))
+    (sym (c.before.are-between.ensures _ _ _ _) ∙ not-true _ c.if5.true))
 
 returns-6 : tie.Need-returns-6
 returns-6 c =

@@ -4,7 +4,7 @@ use mathlib.Core.Path.{◌≡◌, sym, ◌∙◌}
 use mathlib.Core.Bool.{true}
 use lib.ListN.{length}
 use borrow.Author.Rules.{rules}
-use borrow.Author.Tests.{not_true, not-false}
+use borrow.Author.Tests.{not-true, not-false}
 use Rattle.bus.specs.Select.{lone}
 use Rattle.fm31_run.specs.Code.Run.{all_known}
 use Rattle.fm31_image.specs.Accepting.{is_image}
@@ -46,7 +46,7 @@ same_length c = search rules
 returns-2 : tie.Need-returns-2
 returns-2 c =
     told (outcome_wrong_image _ _ _ _ _ c.before.before.before.if1.false
-    (image_not_read _ _ _ (sym c.before.is-image.ensures ∙ not_true _ c.if2.true)))
+    (image_not_read _ _ _ (sym c.before.is-image.ensures ∙ not-true _ c.if2.true)))
 
 all-known-requires : tie.Need-all-known-requires
 all-known-requires c κs = search rules
@@ -61,7 +61,7 @@ returns-3 : tie.Need-returns-3
 returns-3 c =
     let d = c.before.before in
     told (outcome_unknown_event _ _ _ _ _ (long d) _ (image_read _ _ _ (accepted d))
-    (sym c.before.all_Known.ensures ∙ not_true _ c.if3.true))
+    (sym c.before.all_Known.ensures ∙ not-true _ c.if3.true))
 
 cast-result-4 : tie.Need-overflow-cast-result-4
 cast-result-4 c = search rules

@@ -4,7 +4,7 @@ use mathlib.Core.Path.{◌≡◌, sym, ◌∙◌}
 use mathlib.Core.Bool.{true}
 use lib.ListN.{length}
 use borrow.Author.Rules.{rules}
-use borrow.Author.Tests.{not_true, not-false}
+use borrow.Author.Tests.{not-true, not-false}
 use Rattle.bus.specs.Select.{lone}
 use Rattle.fm31_image.specs.Accepting.{is_image}
 use Rattle.fm31_image.proofs.Accepts.{image_read, image_not_read}
@@ -41,7 +41,7 @@ same_length c = search rules
 returns-2 : tie.Need-returns-2
 returns-2 c =
     single_wrong_image _ _ _ _ _ c.before.before.before.if1.false
-    (image_not_read _ _ _ (sym c.before.is-image.ensures ∙ not_true _ c.if2.true))
+    (image_not_read _ _ _ (sym c.before.is-image.ensures ∙ not-true _ c.if2.true))
 
 cast-if3 : tie.Need-overflow-cast-if3
 cast-if3 c = search rules

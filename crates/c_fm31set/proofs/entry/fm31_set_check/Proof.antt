@@ -3,7 +3,7 @@
 use mathlib.Core.Path.{◌≡◌, sym, ◌∙◌}
 use mathlib.Core.Bool.{true}
 use borrow.Author.Rules.{rules}
-use borrow.Author.Tests.{not_true, not-false}
+use borrow.Author.Tests.{not-true, not-false}
 use Rattle.set_event.specs.Set.{Together}
 use Rattle.set_event.specs.Make.{is_lent, places_are, count_fits}
 use Rattle.set_event.specs.Outcome.{lent_to}
@@ -47,7 +47,7 @@ returns c =
     let a = (start r).args in
     sym (check_wrong_count a.plan.now a.images.now a.one.now a.two.now a.three.now
     a.four.now r.read_set.result r.read_set.ensures
-    (sym c.before.is-count.ensures ∙ not_true _ c.if1.true))
+    (sym c.before.is-count.ensures ∙ not-true _ c.if1.true))
 
 are-lent-requires : tie.Need-are-lent-requires
 are-lent-requires c κs = search rules
@@ -62,7 +62,7 @@ returns-2 c =
     let a = (start r).args in
     sym (check_wrong_memory a.plan.now a.images.now a.one.now a.two.now a.three.now
     a.four.now r.read_set.result r.read_set.ensures (fits f)
-    (sym c.before.are-lent.ensures ∙ not_true _ c.if2.true))
+    (sym c.before.are-lent.ensures ∙ not-true _ c.if2.true))
 
 cast-result-3 : tie.Need-overflow-cast-result-3
 cast-result-3 c = search rules
@@ -75,7 +75,7 @@ returns-3 c =
     let a = (start r).args in
     sym (check_wrong_state a.plan.now a.images.now a.one.now a.two.now a.three.now
     a.four.now r.read_set.result r.read_set.ensures (fits f) (lent l)
-    (not_true _ c.if3.true))
+    (not-true _ c.if3.true))
 
 number-requires : tie.Need-number-requires
 number-requires c κs = search rules

@@ -4,7 +4,7 @@ use mathlib.Core.Path.{◌≡◌, sym, ◌∙◌}
 use mathlib.Core.Bool.{true}
 use borrow.Author.Rules.{rules}
 use lib.Dec.{leb}
-use borrow.Author.Tests.{not_true, not-false, leb-true}
+use borrow.Author.Tests.{not-true, not-false, leb-true}
 use Rattle.wire.proofs.Tests.{and_split}
 use Rattle.set_event.specs.Set.{Together, most}
 use Rattle.set_event.specs.Make.{is_lent, places_are, selects_differ, count_fits}
@@ -61,7 +61,7 @@ returns c =
     let a = c.before.before.before.before.before.before.before.before.args in
     sym (run_wrong_count a.read.good
     (lent_to a.read.set a.one.now a.two.now a.three.now a.four.now) a.events.now a.room
-    (sym c.before.is-count.ensures ∙ not_true _ c.if1.true))
+    (sym c.before.is-count.ensures ∙ not-true _ c.if1.true))
 
 are-lent-requires : tie.Need-are-lent-requires
 are-lent-requires c κs = search rules
@@ -71,14 +71,14 @@ returns-2 c =
     let f = c.before.before in
     let a = (start f).args in
     sym (run_wrong_memory a.read.good (setIn f) a.events.now a.room (fits f)
-    (sym c.before.are-lent.ensures ∙ not_true _ c.if2.true))
+    (sym c.before.are-lent.ensures ∙ not-true _ c.if2.true))
 
 returns-3 : tie.Need-returns-3
 returns-3 c =
     let l = c.before.before in
     let f = fitsBefore l in
     let a = (start f).args in
-    sym (run_wrong_state a.read.good (setIn f) a.events.now a.room (fits f) (lent l) (not_true _ c.if3.true))
+    sym (run_wrong_state a.read.good (setIn f) a.events.now a.room (fits f) (lent l) (not-true _ c.if3.true))
 
 all-known-requires : tie.Need-all-known-requires
 all-known-requires c κs =
@@ -92,7 +92,7 @@ returns-4 c =
     let f = fitsBefore l in
     let a = (start f).args in
     sym (run_unknown_event a.read.good (setIn f) a.events.now a.room (fits f) (lent l) (well w)
-    (sym c.before.all_Known.ensures ∙ not_true _ c.if4.true))
+    (sym c.before.all_Known.ensures ∙ not-true _ c.if4.true))
 
 returns-5 : tie.Need-returns-5
 returns-5 c =
@@ -118,7 +118,7 @@ returns-6 c =
     sym (run_equal_selects a.read.good (setIn f) a.events.now a.room (fits f) (lent l) (well w) (known k)
     r.if5.false
     (sym (c.before.selects-differ.ensures a.one.now a.two.now a.three.now a.four.now)
-    ∙ not_true _ c.if6.true))
+    ∙ not-true _ c.if6.true))
 
 stand-together-requires : tie.Need-stand-together-requires
 stand-together-requires c κs = search rules
@@ -135,7 +135,7 @@ returns-7 c =
     sym (run_in_transfer a.read.good (setIn f) a.events.now a.room (fits f) (lent l) (well w) (known k)
     r.if5.false (unlike u)
     (sym (c.before.stand-together.ensures a.one.now a.two.now a.three.now a.four.now)
-    ∙ not_true _ c.if7.true))
+    ∙ not-true _ c.if7.true))
 
 returns-8 : tie.Need-returns-8
 returns-8 c =

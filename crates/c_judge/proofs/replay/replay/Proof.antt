@@ -8,7 +8,7 @@ use mathlib.Core.List.{List}
 use native.Mathlib.Omega.{arith}
 use lib.ListN.{length}
 use borrow.Author.Rules.{rules}
-use borrow.Author.Tests.{not_true, not-false}
+use borrow.Author.Tests.{not-true, not-false}
 use Rattle.fm3130_image.specs.Image.{candidate}
 use Rattle.fm3130_image.proofs.Accepts.{image_long, image_well}
 use Rattle.place_clock.specs.Code.Clocking.{Accepted}
@@ -94,7 +94,7 @@ returns c =
     let n = c.before.before.before.before.before.before.before.before.before.next-long.ensures in
     let t = c.before.before.before.before.before.before.before.before.before.before.loop-test.true in
     let h : l.i + c.before.before.before.before.before.before.before.before.before.next-long.result ≤ s.args.count = omega (arith, n.1, t) in
-    let d = sym c.before.agrees.ensures ∙ not_true _ c.if1.true in
+    let d = sym c.before.agrees.ensures ∙ not-true _ c.if1.true in
     stretch_not s.args.file.now s.args.events s.args.answers s.args.count
     s.requires.1.0.0 s.requires.1.0.1 _ _ l.i _ h _ _ _ c.before.before.before.before.before.before.with-room.ensures d
     ∙ l.invariant.2

@@ -3,7 +3,7 @@
 use mathlib.Core.Bool.{true}
 use mathlib.Core.Path.{◌≡◌, sym, ◌∙◌}
 use lib.ListN.{length}
-use borrow.Author.Tests.{not_true, not-false}
+use borrow.Author.Tests.{not-true, not-false}
 use Rattle.fm3130.specs.Chip.{memory_size}
 use Rattle.fm3130_image.specs.Code.Accepting.{is_image}
 use Rattle.fm3130_image.proofs.Accepts.{image_read, image_not_read}
@@ -47,7 +47,7 @@ same_length c = search rules
 
 returns-2 : tie.Need-returns-2
 returns-2 c =
-    let w = image_not_read _ (sym c.before.before.is-image.ensures ∙ not_true _ c.before.if2.true) in
+    let w = image_not_read _ (sym c.before.before.is-image.ensures ∙ not-true _ c.before.if2.true) in
     rw c.refuse2.ensures (sym (wrong_image _ _ _ _ _ c.before.before.before.before.if1.false w))
 
 is-kept-requires : tie.Need-is-kept-requires
@@ -65,7 +65,7 @@ same-length-3 c = search rules
 returns-3 : tie.Need-returns-3
 returns-3 c =
     let d = c.before.before.before.before in
-    let k = sym c.before.before.is-kept.ensures ∙ not_true _ c.before.if3.true in
+    let k = sym c.before.before.is-kept.ensures ∙ not-true _ c.before.if3.true in
     rw c.refuse3.ensures (sym (wrong_kept _ _ _ _ _ (long d) _ (image_read _ (image d)) k))
 
 all-known-requires : tie.Need-all-known-requires
@@ -83,7 +83,7 @@ same-length-5 c = search rules
 returns-4 : tie.Need-returns-4
 returns-4 c =
     let d = c.before.before.before.before.before.before in
-    let k = sym c.before.before.all_Known.ensures ∙ not_true _ c.before.if4.true in
+    let k = sym c.before.before.all_Known.ensures ∙ not-true _ c.before.if4.true in
     rw c.refuse4.ensures (sym (unknown_event_lem _ _ _ _ _ (long d) _ (image_read _ (image d)) (good c.before.before.before) k))
 
 refuse-requires-5 : tie.Need-refuse-requires-5
@@ -104,8 +104,8 @@ returns-5 c =
 read-requires : tie.Need-read-requires
 read-requires c κs = kept_length _ (good c.before.before.before.before)
 
-follow-events-requires : tie.Need-follow-events-requires
-follow-events-requires c κs =
+follow-in-parts-requires : tie.Need-follow-in-parts-requires
+follow-in-parts-requires c κs =
     let d = c.before.before.before.before.before.before.before.before.before.before.before in
     (record { image = image d; memory = long d }, (known c.before.before.before.before.before.before, c.before.before.before.before.before.if5.false))
 
@@ -138,8 +138,8 @@ returns-6 c =
     let at11 = c.before.before.before.before.before.before.before.before.before.before.before in
     let at16 = c.before.before.before.before.before.before.before.before.before.before.before.before.before.before.before.before.before in
     let d = c.before.before.before.before.before.before.before.before.before.before.before.before.before.before.before.before.before.before.before.before.before.before.before in
-    let w = rw c.before.before.before.before.before.before.before.before.before.before.before.before.before.before.before.read.ensures at at11.follow-events.ensures in
-    all_done _ _ _ _ _ (long d) _ (image_read _ (image d)) (good c.before.before.before.before.before.before.before.before.before.before.before.before.before.before.before.before.before.before.before.before) at11.follow-events.result _ _ _ _ _
+    let w = rw c.before.before.before.before.before.before.before.before.before.before.before.before.before.before.before.read.ensures at at11.follow-in-parts.ensures in
+    all_done _ _ _ _ _ (long d) _ (image_read _ (image d)) (good c.before.before.before.before.before.before.before.before.before.before.before.before.before.before.before.before.before.before.before.before) at11.follow-in-parts.result _ _ _ _ _
     (known at16.before) at16.if5.false w c.before.before.before.write.ensures c.report.ensures
 
 pub fm3130_lamps_spec : {M : Type 1} → statement M
@@ -167,7 +167,7 @@ fm3130_lamps_spec =
     same-length-7
     returns-5
     read-requires
-    follow-events-requires
+    follow-in-parts-requires
     write-requires
     cast-t27
     report-requires

@@ -2,7 +2,7 @@
 -- The two ways to be refused, and the ask that is answered, each by its law.
 use mathlib.Core.Path.{sym, ◌∙◌}
 use borrow.Author.Rules.{rules}
-use borrow.Author.Tests.{not_true, not-false}
+use borrow.Author.Tests.{not-true, not-false}
 use Rattle.masters_hold.proofs.Known.{one_byte, one_set}
 use Rattle.c_masters.proofs.Ways.{ask_unknown, ask_refused, ask_answered}
 use Rattle.c_masters.proofs.entries.fm3130_ask.Statement.{statement}
@@ -39,7 +39,7 @@ same-length-2 c = search rules
 returns-2 : tie.Need-returns-2
 returns-2 c =
     let h = sym c.before.before.before.before.before.standing.ensures ∙ c.before.before.before.holder.given.1 in
-    sym (ask_refused _ _ _ _ h (sym c.before.may-ask.ensures ∙ not_true _ c.if1.true))
+    sym (ask_refused _ _ _ _ h (sym c.before.may-ask.ensures ∙ not-true _ c.if1.true))
 
 master-number-requires : tie.Need-master-number-requires
 master-number-requires c κs = search rules

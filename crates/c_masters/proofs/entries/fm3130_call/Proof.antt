@@ -4,7 +4,7 @@ use mathlib.Core.Bool.{true}
 use mathlib.Core.Path.{◌≡◌, sym, ◌∙◌}
 use lib.ListN.{length}
 use borrow.Author.Rules.{rules}
-use borrow.Author.Tests.{not_true, not-false}
+use borrow.Author.Tests.{not-true, not-false}
 use Rattle.fm3130.specs.Chip.{memory_size}
 use Rattle.fm3130_image.specs.Code.Accepting.{is_image}
 use Rattle.fm3130_image.proofs.Accepts.{image_read, image_not_read}
@@ -65,7 +65,7 @@ same_length c = search rules
 
 returns-2 : tie.Need-returns-2
 returns-2 c =
-    let b = image_not_read _ (sym c.before.before.is-image.ensures ∙ not_true _ c.before.if2.true) in
+    let b = image_not_read _ (sym c.before.before.is-image.ensures ∙ not-true _ c.before.if2.true) in
     rw c.refuse2.ensures (sym (call_wrong_image _ _ _ _ _ _ c.before.before.before.before.if1.false b))
 
 standing-requires : tie.Need-standing-requires
@@ -109,7 +109,7 @@ returns-4 : tie.Need-returns-4
 returns-4 c =
     let h = c.before.before.before.before in
     let s = accepted h in
-    let k = sym c.before.before.all_Known.ensures ∙ not_true _ c.before.if3.true in
+    let k = sym c.before.before.all_Known.ensures ∙ not-true _ c.before.if3.true in
     rw c.refuse4.ensures (sym (call_unknown_event _ _ _ _ _ _ (long s) _ (image_read _ (image s)) _ _ (stood h) k))
 
 may-call-requires : tie.Need-may-call-requires
@@ -129,7 +129,7 @@ returns-5 c =
     let e = c.before.before.before in
     let h = e.before.before.before in
     let s = accepted h in
-    let m = sym c.before.before.may-call.ensures ∙ not_true _ c.before.if4.true in
+    let m = sym c.before.before.may-call.ensures ∙ not-true _ c.before.if4.true in
     rw c.refuse5.ensures
     (sym (call_not_held _ _ _ _ _ _ (long s) _ (image_read _ (image s)) _ _ (stood h) (known e) m))
 

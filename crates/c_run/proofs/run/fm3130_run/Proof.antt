@@ -4,7 +4,7 @@ use mathlib.Core.Bool.{true}
 use mathlib.Core.Path.{◌≡◌, sym, ◌∙◌}
 use lib.ListN.{length}
 use borrow.Author.Rules.{rules}
-use borrow.Author.Tests.{not_true, not-false}
+use borrow.Author.Tests.{not-true, not-false}
 use Rattle.fm3130.specs.Chip.{memory_size}
 use Rattle.fm3130_image.specs.Code.Accepting.{is_image}
 use Rattle.fm3130_image.proofs.Accepts.{image_read, image_not_read}
@@ -45,7 +45,7 @@ same_length c = search rules
 
 returns-2 : tie.Need-returns-2
 returns-2 c =
-    let b = image_not_read _ (sym c.before.before.is-image.ensures ∙ not_true _ c.before.if2.true) in
+    let b = image_not_read _ (sym c.before.before.is-image.ensures ∙ not-true _ c.before.if2.true) in
     rw c.refuse2.ensures
     (sym (outcome_wrong_image _ _ _ _ c.before.before.before.before.if1.false b))
 
@@ -61,7 +61,7 @@ same-length-2 c = search rules
 returns-3 : tie.Need-returns-3
 returns-3 c =
     let d = c.before.before.before in
-    let k = sym c.before.before.all_Known.ensures ∙ not_true _ c.before.if3.true in
+    let k = sym c.before.before.all_Known.ensures ∙ not-true _ c.before.if3.true in
     rw c.refuse3.ensures (sym (outcome_unknown_event _ _ _ _ (long d) _ (image_read _ (image d)) k))
 
 refuse-requires-4 : tie.Need-refuse-requires-4

@@ -1,0 +1,15 @@
+-- SPDX-License-Identifier: Apache-2.0
+-- A companion address byte: what its eighth clock asks, and the others.
+use mathlib.Core.Path.{sym}
+use borrow.Author.Rules.{rules}
+use Rattle.wire.specs.Bits.{place_at}
+use Rattle.bus_deeds.specs.Serve.{at_last}
+use Rattle.bus_deeds.proofs.Asked.{last_none}
+use Rattle.bus_deeds.proofs.pointer_asks.Goals as goal
+
+pub returns-then-clocks-eq7 : goal.returns-then-clocks-eq7
+unfolding place_at at_last
+returns-then-clocks-eq7 c = rw (c.push.ensures, c.if-clocks-eq7.true)
+
+pub returns : goal.returns
+returns c = sym (last_none c.args.clocks _ c.if-clocks-eq7.false)

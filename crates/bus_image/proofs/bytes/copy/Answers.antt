@@ -1,0 +1,22 @@
+-- SPDX-License-Identifier: Apache-2.0
+-- The loop's invariant: the bytes passed are copied. The measure is what is left.
+use Prim.Native.Nat.{◌≤◌, ◌-◌}
+use mathlib.Core.Path.{◌≡◌}
+use native.Mathlib.Omega.{arith}
+use lib.ListN.{length, take}
+use borrow.Author.Rules.{rules}
+use Rattle.bus_image.proofs.Lists.{copy_more, copy_done}
+use Rattle.bus_image.proofs.bytes.copy.Goals as goal
+
+pub loop-i-preserved : goal.loop-i-preserved
+loop-i-preserved c =
+    let l = c.loop-i in
+    let from = c.args.from.now in (
+      search rules,
+      search rules,
+      search rules,
+      copy_more from l.to l.i (omega arith) (omega arith) l.invariant.3,
+    )
+
+pub returns : goal.returns
+returns c = copy_done _ _ _ c.loop-i-test.false (omega arith) c.loop-i.invariant.3

@@ -1,0 +1,17 @@
+-- SPDX-License-Identifier: Apache-2.0
+-- The loop's invariant: the bytes passed are copied. The measure is what is left.
+use Prim.Native.Nat.{◌≤◌, ◌-◌}
+use mathlib.Core.Path.{◌≡◌}
+use native.Mathlib.Omega.{arith}
+use lib.ListN.{length, take}
+use borrow.Author.Rules.{rules}
+use Rattle.bus_image.proofs.Lists.{copy_more, copy_done}
+use Rattle.bus_image.proofs.bytes.copy.Given as goal
+
+abbrev pub invariant-loop-i : goal.invariant-loop-i
+invariant-loop-i l =
+    (l.i ≤ length l.from) × (length l.to ≡ length l.initial.to) × (length l.initial.to ≡ length l.from) × (take l.i l.to ≡ take l.i l.from)
+
+abbrev pub decreases-loop-i : goal.decreases-loop-i
+decreases-loop-i l = length l.from - l.i
+

@@ -1,0 +1,9 @@
+-- SPDX-License-Identifier: Apache-2.0
+-- Four bytes, joined.
+use borrow.Author.Rules.{rules}
+use Rattle.capture_table.specs.Table.{word_at}
+use Rattle.capture_table.proofs.entries.word_at.Goals as goal
+
+pub returns : goal.returns
+unfolding word_at
+returns c = c.joined.ensures

@@ -1,0 +1,31 @@
+-- SPDX-License-Identifier: Apache-2.0
+-- Seven stores, each one place after the one before.
+use native.Mathlib.Numerals.{towards_suc}
+use native.Mathlib.Omega.{arith}
+use lib.ListN.{length-set}
+use borrow.Author.Rules.{rules}
+use Rattle.fm3130_image.proofs.write.write_calendar.Goals as goal
+
+pub bounds-image-at-2 : goal.bounds-image-at-2
+bounds-image-at-2 c = let l = c.requires.0 in let a = c.requires.1 in simp length-set (omega arith)
+
+pub bounds-image-at-3 : goal.bounds-image-at-3
+bounds-image-at-3 c = let l = c.requires.0 in let a = c.requires.1 in simp length-set (omega arith)
+
+pub bounds-image-at-4 : goal.bounds-image-at-4
+bounds-image-at-4 c = let l = c.requires.0 in let a = c.requires.1 in simp length-set (omega arith)
+
+pub bounds-image-at-5 : goal.bounds-image-at-5
+bounds-image-at-5 c = let l = c.requires.0 in let a = c.requires.1 in simp length-set (omega arith)
+
+pub bounds-image-at-6 : goal.bounds-image-at-6
+bounds-image-at-6 c = let l = c.requires.0 in let a = c.requires.1 in simp length-set (omega arith)
+
+pub bounds-image-at-7 : goal.bounds-image-at-7
+bounds-image-at-7 c = let l = c.requires.0 in let a = c.requires.1 in simp length-set (omega arith)
+
+pub shape_of-image : goal.shape_of-image
+shape_of-image c = simp length-set
+
+pub returns : goal.returns
+returns c = simp towards_suc

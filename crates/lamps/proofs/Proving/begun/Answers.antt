@@ -1,0 +1,7 @@
+-- SPDX-License-Identifier: Apache-2.0
+-- `lamps::Proving::begun` meets its contract.
+use borrow.Author.Rules.{rules}
+use Rattle.lamps.proofs.Proving.begun.Goals as goal
+
+pub returns : goal.returns
+returns c = λ k. record { follower = c.at_rest.ensures k; lamps = c.dark.ensures k }

@@ -1,0 +1,25 @@
+-- SPDX-License-Identifier: Apache-2.0
+-- No transfer, a byte that goes out, a byte that comes in.
+use mathlib.Core.Path.{refl}
+use native.Mathlib.Omega.{arith}
+use Rattle.fm3130_image.proofs.Accepts.{image_long}
+use Rattle.place_clock.proofs.Outgoings.{at_idle}
+use borrow.Author.Rules.{rules}
+use Rattle.place_clock.proofs.send.clock.Goals as goal
+
+pub bounds-image-26 : goal.bounds-image-26
+bounds-image-26 c = let t = c in let l = image_long _ t.requires.image in omega arith
+
+pub returns-then-number-eq-IDLE : goal.returns-then-number-eq-IDLE
+returns-then-number-eq-IDLE c = let t = c in at_idle t.requires t.args.high c.if-number-eq-IDLE.true
+
+pub send-requires : goal.send-requires
+send-requires c =
+    let t = c in
+    record { accepted = t.requires; number_value = (refl, c.if-number-gt-WRITE_COMPANION.true) }
+
+pub returns-then-number-gt-WRITE_COMPANION : goal.returns-then-number-gt-WRITE_COMPANION
+returns-then-number-gt-WRITE_COMPANION c = c.send.ensures
+
+pub returns : goal.returns
+returns c = c.receive.ensures

@@ -1,0 +1,33 @@
+-- SPDX-License-Identifier: Apache-2.0
+-- A Clock, or an event that touches no memory; the answer byte is of the state that the event left.
+use mathlib.Core.Path.{◌≡◌, refl, sym, ap, ◌∙◌}
+use native.Mathlib.Omega.{arith}
+use borrow.Author.Rules.{rules}
+use lib.ListN.{length}
+use Rattle.fm3130_image.specs.Image.{image_size, image_of, candidate}
+use Rattle.fm3130_image.proofs.Images.{image_length}
+use Rattle.fm3130_image.proofs.Accepts.{image_long, image_well}
+use Rattle.place_event.proofs.Quiets.{answered_clock, answered_quiet}
+use Rattle.place_event.proofs.event.happen.Goals as goal
+
+pub shown-requires : goal.shown-requires
+shown-requires c =
+    let k = c in ap length k.clock-line.ensures.image ∙ image_length _
+
+pub returns-then-event-eq1 : goal.returns-then-event-eq1
+returns-then-event-eq1 c =
+    let h = c in
+    let k = h in
+    let s = k in
+    answered_clock _ _ _ _ _ _ _ (image_well _ s.requires.accepted.image) k.if-event-eq1.true
+    k.clock-line.ensures h.shown.ensures.0 c.lined.ensures
+
+pub shown-requires-2 : goal.shown-requires-2
+shown-requires-2 c =
+    let q = c in ap length (q.quiet.ensures q.args.memory.now).image ∙ image_length _
+
+pub returns : goal.returns
+returns c =
+    let h = c in
+    let q = h in
+    answered_quiet _ _ _ _ _ (q.quiet.ensures _) h.shown-2.ensures.0 c.lined-2.ensures

@@ -1,0 +1,28 @@
+-- SPDX-License-Identifier: Apache-2.0
+-- The calendar's own tick, by value; then the alarm and what the tick tells.
+use Rattle.std.proofs.Common.{◌≡◌, refl, ap, ◌∙◌, rules}
+use Rattle.calendar.specs.Next.{next_of}
+use Rattle.calendar.specs.declared.Advanced.{Advanced}
+use Rattle.fm3130_companion.specs.declared.Companion.{Companion}
+use Rattle.fm3130.specs.Code.Bus.{with_companion}
+use Rattle.fm3130_image.specs.Image.{image_of, calendar_at}
+use Rattle.place_companion.specs.Code.Desk.{with_core}
+use Rattle.place_tick.proofs.Ticks.{counted_parts}
+use Rattle.place_tick.proofs.carried.Goals as goal
+
+pub returns : goal.returns
+unfolding image_of calendar_at
+returns c s e v =
+    let f = c in
+    let k = f in
+    let b = k in
+    let u = b in
+    let w = u in
+    let a : u.next-next.result ≡ next_of s.companion.core = u.next-next.ensures ∙ rw (w.calendar_at-core.ensures, e) refl in
+    let q = with_companion s (with_core s.companion u.next-next.result.calendar) in
+    let p = b.put_core.ensures s e in
+    let g = k.rings-rung.ensures q p in
+    let t = f.tell.ensures q p in (
+      ap (λ (x : Advanced). x.rolled) a,
+      t ∙ rw (g, a) (ap (λ (x : Companion). image_of (with_companion s x)) (counted_parts s.companion v)),
+    )

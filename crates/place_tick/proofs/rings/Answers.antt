@@ -1,0 +1,26 @@
+-- SPDX-License-Identifier: Apache-2.0
+-- The seconds decide, or all five.
+use Rattle.std.proofs.Common.{◌≡◌, true, false, sym, refl, ◌∙◌, rules}
+use borrow.Author.Tests.{not-true, not-false}
+use Rattle.fm3130_registers.specs.Alarm.{agrees}
+use Rattle.fm3130_image.specs.Image.{image_of}
+use Rattle.place_tick.proofs.rings.Goals as goal
+
+pub returns-then-not-agrees : goal.returns-then-not-agrees
+unfolding image_of
+returns-then-not-agrees c s e =
+    let a : agrees s.companion.registers.alarm.seconds s.companion.core.seconds ≡ false =
+    rw e at (sym c.agrees.ensures ∙ c.if-not-agrees.true) in
+    rw a refl
+
+pub returns : goal.returns
+unfolding image_of
+returns c s e =
+    let f = c in
+    let k = f in
+    let b = k in
+    let u = b in
+    let w = u in
+    let a : agrees s.companion.registers.alarm.seconds s.companion.core.seconds ≡ true =
+    rw e at (sym w.agrees.ensures ∙ u.if-not-agrees.false) in
+    rw (a, c.agrees-5.ensures, f.agrees-4.ensures, k.agrees-3.ensures, b.agrees-2.ensures, e) refl
