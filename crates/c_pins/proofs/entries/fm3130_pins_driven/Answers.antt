@@ -1,0 +1,7 @@
+-- SPDX-License-Identifier: Apache-2.0
+use Rattle.c_pins.proofs.Words.{driven_word_lem}
+use borrow.Author.Rules.{rules}
+use Rattle.c_pins.proofs.entries.fm3130_pins_driven.Goals as goal
+
+pub returns : goal.returns
+returns c = driven_word_lem _ _ _ _ _ _ _ c.unpack-b.ensures c.unpack-d.ensures c.driven-token.ensures c.pack.ensures
