@@ -14,7 +14,7 @@ bounds-image-27 c = omega (arith, image_long _ c.requires.accepted.image)
 pub returns-then-done-ne0 : goal.returns-then-done-ne0
 returns-then-done-ne0 c =
     let s = c in
-    begun_still _ _ _ _ _ s.requires.accepted (omega (arith, s.requires.bound.1.0)) s.requires.bound.0.0 c.if-done-ne0.true s.requires.bound.0.1
+    begun_still _ _ _ _ _ s.requires.accepted (omega (arith, s.requires.from_in_bounds.0)) s.requires.bound.0 c.if-done-ne0.true s.requires.bound.1
 
 pub bounds-image-26 : goal.bounds-image-26
 bounds-image-26 c =
@@ -32,7 +32,7 @@ shown-pin-requires c =
 pub bounds-events-from : goal.bounds-events-from
 bounds-events-from c =
     let at12 = c in
-    at12.requires.bound.1.0
+    at12.requires.from_in_bounds.0
 
 pub sending_line-line-requires : goal.sending_line-line-requires
 sending_line-line-requires c = omega arith
@@ -47,7 +47,7 @@ pub bounds-answers-from : goal.bounds-answers-from
 bounds-answers-from c =
     let at8 = c in
     let s = at8 in
-    omega (arith, s.requires.bound.1.0, s.requires.bound.1.1)
+    omega (arith, s.requires.from_in_bounds.0, s.requires.from_in_bounds.1)
 
 pub settle-requires : goal.settle-requires
 settle-requires c =
@@ -64,7 +64,7 @@ returns c =
     let at12 = at9 in
     let s = at12 in
     let w = sym (image_written _ s.requires.accepted.image) in
-    let h = s.requires.bound.1 in
-    row_begun _ _ _ _ _ s.requires.accepted h.0 h.1 h.2 s.requires.bound.0.0 at12.if-done-ne0.false _ _ _ _
+    let h = s.requires.from_in_bounds in
+    row_begun _ _ _ _ _ s.requires.accepted h.0 h.1 h.2 s.requires.bound.0 at12.if-done-ne0.false _ _ _ _
     (at9.fetched-byte.ensures _ w) (shown_both at7.shown-pin.ensures _ w).0
     (at4.lined.ensures ∙ rw at5.sending_line-line.ensures refl) c.settle.ensures

@@ -21,9 +21,6 @@ loop-i-init c =
 pub bounds-events-i : goal.bounds-events-i
 bounds-events-i c = c.loop-i-test.true
 
-pub shape_of-answers-then-event-ne1 : goal.shape_of-answers-then-event-ne1
-shape_of-answers-then-event-ne1 c = c.loop-i.invariant.2
-
 pub returns-then-event-ne1 : goal.returns-then-event-ne1
 returns-then-event-ne1 c =
     let at3 = c in
@@ -58,11 +55,14 @@ loop-i-preserved c =
       idle_more _ _ _ _ s.requires.image_value.0 _ _ t s.requires.from_in_bounds.1 _ p.0 l.invariant.3 s.requires.image_value.1 c.if-event-ne1.false,
     )
 
-pub shape_of-answers : goal.shape_of-answers
-shape_of-answers c = c.loop-i.invariant.2
-
 pub returns : goal.returns
 returns c =
     let at6 = c in
     let l = c.loop-i in
     (idle_reached _ _ _ _ at6.requires.image_value.0 _ _ l.invariant.3, λ n k. omega (arith, n, c.loop-i-test.false))
+
+-- GONE same_length : tie.Need-same-length invariant-loop decreases-loop
+-- GONE same_length c = c.before.before.before.loop.invariant.2
+
+-- GONE same-length-2 : tie.Need-same-length-2 invariant-loop decreases-loop
+-- GONE same-length-2 c = c.before.loop.invariant.2

@@ -20,15 +20,15 @@ pub bounds-image-28 : goal.bounds-image-28
 bounds-image-28 c = omega (arith, image_long _ c.requires.image_value)
 
 pub overflow_sub-clocks : goal.overflow_sub-clocks
-overflow_sub-clocks c = omega (arith, c.requires.bound.0.2)
+overflow_sub-clocks c = omega (arith, c.requires.bound.2)
 
 pub row_end-end-requires : goal.row_end-end-requires
-row_end-end-requires c = c.requires.bound.1.0
+row_end-end-requires c = c.requires.from_in_bounds.0
 
 pub loop-i-init : goal.loop-i-init
 loop-i-init c =
     let s = c in
-    (refl, omega arith, c.row_end-end.ensures.0, refl, refl, bits_begun _ _ _ _ s.requires.image_value s.requires.bound.1.0)
+    (refl, omega arith, c.row_end-end.ensures.0, refl, refl, bits_begun _ _ _ _ s.requires.image_value s.requires.from_in_bounds.0)
 
 pub bounds-events-i : goal.bounds-events-i
 bounds-events-i c = omega (arith, c.loop-i-test.true, c.row_end-end.ensures.1)
@@ -39,14 +39,6 @@ settle-requires c =
     let at13 = at4 in
     ap length at4.loop-i.invariant.0 ∙ image_long _ at13.requires.image_value
 
-pub shape_of-image-then-event-ne1 : goal.shape_of-image-then-event-ne1
-shape_of-image-then-event-ne1 c =
-    let at7 = c in
-    settled_length _ _ _ _ _ at7.loop-i.invariant.0 c.settle.ensures
-
-pub shape_of-answers-then-event-ne1 : goal.shape_of-answers-then-event-ne1
-shape_of-answers-then-event-ne1 c = c.loop-i.invariant.3
-
 pub returns-then-event-ne1 : goal.returns-then-event-ne1
 returns-then-event-ne1 c =
     let at4 = c in
@@ -54,7 +46,7 @@ returns-then-event-ne1 c =
     let s = at7 in
     let l = at7.loop-i in
     let w = c.settle.ensures in (
-      bits_reached _ _ _ _ s.requires.image_value _ _ _ _ _ _ l.invariant.5 (omega (arith, s.requires.bound.0.0)) l.invariant.0 w,
+      bits_reached _ _ _ _ s.requires.image_value _ _ _ _ _ _ l.invariant.5 (omega (arith, s.requires.bound.0)) l.invariant.0 w,
       λ n k. further (λ (x : ℕ). x / 2 ≡ 1) s.args.events.now s.args.from l.i l.invariant.1 k at4.if-event-ne1.true,
     )
 
@@ -64,7 +56,7 @@ sending_line-line-requires c =
     let at4 = at3 in
     let at12 = at4 in
     let l = at3.loop-i in
-    omega (arith, l.invariant.4, c.loop-i-test.true, at4.row_end-end.ensures.2, at12.requires.bound.0.2)
+    omega (arith, l.invariant.4, c.loop-i-test.true, at4.row_end-end.ensures.2, at12.requires.bound.2)
 
 pub lined-requires : goal.lined-requires
 lined-requires c =
@@ -78,7 +70,7 @@ bounds-answers-i c =
     let at5 = at4 in
     let at6 = at5 in
     let s = at6 in
-    omega (arith, at5.loop-i.invariant.3, at4.loop-i-test.true, at6.row_end-end.ensures.1, s.requires.bound.1.1)
+    omega (arith, at5.loop-i.invariant.3, at4.loop-i-test.true, at6.row_end-end.ensures.1, s.requires.from_in_bounds.1)
 
 pub overflow_add-clocks : goal.overflow_add-clocks
 overflow_add-clocks c =
@@ -86,7 +78,7 @@ overflow_add-clocks c =
     let at5 = at4 in
     let at6 = at5 in
     let s = at6 in
-    omega (arith, at5.loop-i.invariant.4, at4.loop-i-test.true, at6.row_end-end.ensures.2, s.requires.bound.0.2)
+    omega (arith, at5.loop-i.invariant.4, at4.loop-i-test.true, at6.row_end-end.ensures.2, s.requires.bound.2)
 
 pub loop-i-smaller : goal.loop-i-smaller
 loop-i-smaller c = omega (arith, c.loop-i-test.true)
@@ -102,16 +94,16 @@ loop-i-preserved c =
     let t = at4.loop-i-test.true in
     let e = at6.row_end-end.ensures in
     let n : l.i < length s.args.events.now = omega (arith, t, e.1) in
-    let k : l.clocks < 7 = omega (arith, l.invariant.4, t, e.2, s.requires.bound.0.2) in
-    let z : 0 < l.clocks = omega (arith, l.invariant.4, l.invariant.1, s.requires.bound.0.1) in
+    let k : l.clocks < 7 = omega (arith, l.invariant.4, t, e.2, s.requires.bound.2) in
+    let z : 0 < l.clocks = omega (arith, l.invariant.4, l.invariant.1, s.requires.bound.1) in
     let p = shown_both at9.shown-pin.ensures _ (sym (image_written _ s.requires.image_value)) in (
       l.invariant.0,
       omega (arith, l.invariant.1),
       omega (arith, t),
       search rules,
       omega (arith, l.invariant.4),
-      outgoing_more _ _ _ _ s.requires.image_value _ _ n s.requires.bound.1.1 _ p.0 _ _ l.invariant.5 c.if-event-ne1.false
-          s.requires.bound.0.0 z k _
+      outgoing_more _ _ _ _ s.requires.image_value _ _ n s.requires.from_in_bounds.1 _ p.0 _ _ l.invariant.5 c.if-event-ne1.false
+          s.requires.bound.0 z k _
           (c.lined.ensures ∙ rw c.sending_line-line.ensures refl),
     )
 
@@ -119,14 +111,6 @@ pub settle-requires-2 : goal.settle-requires-2
 settle-requires-2 c =
     let at11 = c in
     ap length c.loop-i.invariant.0 ∙ image_long _ at11.requires.image_value
-
-pub shape_of-image : goal.shape_of-image
-shape_of-image c =
-    let at5 = c in
-    settled_length _ _ _ _ _ at5.loop-i.invariant.0 c.settle-2.ensures
-
-pub shape_of-answers : goal.shape_of-answers
-shape_of-answers c = c.loop-i.invariant.3
 
 pub returns : goal.returns
 returns c =
@@ -136,6 +120,22 @@ returns c =
     let s = at6 in
     let l = at5.loop-i in
     let w = c.settle-2.ensures in (
-      bits_reached _ _ _ _ s.requires.image_value _ _ _ _ _ _ l.invariant.5 (omega (arith, s.requires.bound.0.0)) l.invariant.0 w,
-      λ n k. let f = at6.row_end-end.ensures.3 n (omega (arith, s.requires.bound.0.2)) in omega (arith, f, at4.loop-i-test.false),
+      bits_reached _ _ _ _ s.requires.image_value _ _ _ _ _ _ l.invariant.5 (omega (arith, s.requires.bound.0)) l.invariant.0 w,
+      λ n k. let f = at6.row_end-end.ensures.3 n (omega (arith, s.requires.bound.2)) in omega (arith, f, at4.loop-i-test.false),
     )
+
+-- GONE same_length : tie.Need-same-length invariant-loop decreases-loop
+-- GONE same_length c =
+-- GONE     let at7 = c.before.before.before.before.before.before.before in
+-- GONE     settled_length _ _ _ _ _ at7.loop.invariant.0 c.before.before.settle.ensures
+
+-- GONE same-length-2 : tie.Need-same-length-2 invariant-loop decreases-loop
+-- GONE same-length-2 c = c.before.before.before.before.before.before.before.loop.invariant.3
+
+-- GONE same-length-3 : tie.Need-same-length-3 invariant-loop decreases-loop
+-- GONE same-length-3 c =
+-- GONE     let at5 = c.before.before.before.before.before in
+-- GONE     settled_length _ _ _ _ _ at5.loop.invariant.0 c.before.before.settle2.ensures
+
+-- GONE same-length-4 : tie.Need-same-length-4 invariant-loop decreases-loop
+-- GONE same-length-4 c = c.before.before.before.before.before.loop.invariant.3

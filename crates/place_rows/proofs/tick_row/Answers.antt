@@ -30,15 +30,6 @@ loop-i-init c =
 pub bounds-events-i : goal.bounds-events-i
 bounds-events-i c = c.loop-i-test.true
 
-pub shape_of-image-then-events-i-ne4 : goal.shape_of-image-then-events-i-ne4
-shape_of-image-then-events-i-ne4 c =
-    let at3 = c in
-    let at7 = at3 in
-    ap length at3.loop-i.invariant.2 ∙ image_length _ ∙ sym (image_long _ at7.requires.image_value.0)
-
-pub shape_of-answers-then-events-i-ne4 : goal.shape_of-answers-then-events-i-ne4
-shape_of-answers-then-events-i-ne4 c = c.loop-i.invariant.4
-
 pub returns-then-events-i-ne4 : goal.returns-then-events-i-ne4
 returns-then-events-i-ne4 c =
     let at3 = c in
@@ -98,14 +89,6 @@ loop-i-preserved c =
       tick_more _ _ _ _ s.requires.image_value.0 _ _ _ _ _ l.invariant.5 t s.requires.from_in_bounds.1 l.invariant.3 v.1 at6.if-events-i-ne4.false p.0,
     )
 
-pub shape_of-image : goal.shape_of-image
-shape_of-image c =
-    let at5 = c in
-    ap length c.loop-i.invariant.2 ∙ image_length _ ∙ sym (image_long _ at5.requires.image_value.0)
-
-pub shape_of-answers : goal.shape_of-answers
-shape_of-answers c = c.loop-i.invariant.4
-
 pub returns : goal.returns
 returns c =
     let at5 = c in
@@ -113,3 +96,20 @@ returns c =
       ticks_reached _ _ _ _ at5.requires.image_value.0 _ _ _ l.invariant.5 l.invariant.2,
       λ n k. omega (arith, n, c.loop-i-test.false),
     )
+
+-- GONE same_length : tie.Need-same-length invariant-loop decreases-loop
+-- GONE same_length c =
+-- GONE     let at3 = c.before.before.before in
+-- GONE     let at7 = at3.before.before.before.before in
+-- GONE     ap length at3.loop.invariant.2 ∙ image_length _ ∙ sym (image_long _ at7.requires.0.0)
+
+-- GONE same-length-2 : tie.Need-same-length-2 invariant-loop decreases-loop
+-- GONE same-length-2 c = c.before.before.before.loop.invariant.4
+
+-- GONE same-length-3 : tie.Need-same-length-3 invariant-loop decreases-loop
+-- GONE same-length-3 c =
+-- GONE     let at5 = c.before.before.before.before.before in
+-- GONE     ap length c.before.loop.invariant.2 ∙ image_length _ ∙ sym (image_long _ at5.requires.0.0)
+
+-- GONE same-length-4 : tie.Need-same-length-4 invariant-loop decreases-loop
+-- GONE same-length-4 c = c.before.loop.invariant.4

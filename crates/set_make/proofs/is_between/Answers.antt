@@ -1,0 +1,9 @@
+-- SPDX-License-Identifier: Apache-2.0
+-- `set_make::is_between` meets its contract.
+use Rattle.set_event.specs.Make.{is_between}
+use borrow.Author.Rules.{rules}
+use Rattle.set_make.proofs.is_between.Goals as goal
+
+pub returns : goal.returns
+unfolding is_between
+returns c = λ m. c.is_idle.ensures
