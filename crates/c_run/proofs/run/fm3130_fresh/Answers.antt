@@ -1,0 +1,21 @@
+-- SPDX-License-Identifier: Apache-2.0
+-- The two ways through the test of the length.
+use borrow.Author.Rules.{rules}
+use borrow.Author.Tests.{eq-eqb, ne_eqb}
+use Rattle.bus_list.specs.Fresh.{fresh_of}
+use Rattle.c_run.proofs.run.fm3130_fresh.Goals as goal
+
+pub returns-then-image-ne-LENGTH : goal.returns-then-image-ne-LENGTH
+unfolding fresh_of
+returns-then-image-ne-LENGTH c = rw (ne_eqb _ _ c.if-image-ne-LENGTH.true)
+
+pub returns : goal.returns
+unfolding fresh_of
+returns c =
+    let w = c in
+    rw (
+      eq-eqb _ _ w.if-image-ne-LENGTH.false,
+      c.copy.ensures,
+      w.image_of-written.ensures,
+      w.fresh.ensures,
+    )

@@ -1,0 +1,16 @@
+-- SPDX-License-Identifier: Apache-2.0
+-- One event: its answer goes to its place.
+use borrow.Author.Rules.{rules}
+use Rattle.fm3130_list.proofs.Runs.{known_at}
+use Rattle.place_list.proofs.Striding.{rowed_one}
+use Rattle.place_list.proofs.single.Goals as goal
+
+pub happen-answer-requires : goal.happen-answer-requires
+happen-answer-requires c =
+    let s = c in
+    record { accepted = s.requires.accepted; event_bound = known_at s.args.events.now s.requires.events_value.0 s.args.from s.requires.events_value.1 }
+
+pub returns : goal.returns
+returns c =
+    let s = c in
+    rowed_one _ _ _ _ _ _ _ _ s.requires.accepted s.requires.events_value.1 s.requires.events_value.2 c.happen-answer.ensures
