@@ -1,0 +1,40 @@
+-- SPDX-License-Identifier: Apache-2.0
+-- Refused, by the number that the tests gave; or the events done, and the images written at the end.
+use Prim.Native.Nat.{◌*◌, ◌≤◌, ◌<◌}
+use mathlib.Core.Path.{◌≡◌}
+use lib.ListN.{length}
+use borrow.Author.Rules.{rules}
+use Rattle.set_event.specs.Set.{Together}
+use Rattle.set_event.specs.Outcome.{lent_to, SetFit}
+use Rattle.fm31_image.specs.Image.{image_size}
+use Rattle.c_fm31set.proofs.Entries.{run_refused, images_long, some_device, room_enough, set_fit, run_written}
+
+-- where nothing is refused
+use Rattle.c_fm31set.proofs.entry.fm31_set_run.Goals as goal
+
+pub returns-then-number-ne-ACCEPTED : goal.returns-then-number-ne-ACCEPTED
+returns-then-number-ne-ACCEPTED c =
+    let a = c.args in
+    let r = c.read_set-read in
+    let n = c.run_number-number in
+    run_refused a.plan.now a.images.now a.one.now a.two.now a.three.now a.four.now
+    a.events.now a.answers.now r.result r.ensures n.result n.ensures c.if-number-ne-ACCEPTED.true
+
+pub run_events-last-requires : goal.run_events-last-requires
+run_events-last-requires c = let e = c in record { set_fit = (let shown : SetFit ((let a = e.args in lent_to e.read_set-read.result.set a.one.now a.two.now a.three.now a.four.now)) = let a = e.args in let r = e.read_set-read in let n = e.run_number-number in set_fit a.plan.now a.images.now a.one.now a.two.now a.three.now a.four.now a.events.now a.answers.now r.result r.ensures n.result n.ensures e.if-number-ne-ACCEPTED.false in shown); room = ((let shown : 0 < ((let a = e.args in lent_to e.read_set-read.result.set a.one.now a.two.now a.three.now a.four.now)).set.count = let a = e.args in let r = e.read_set-read in let n = e.run_number-number in some_device a.plan.now a.images.now a.one.now a.two.now a.three.now a.four.now a.events.now a.answers.now r.result r.ensures n.result n.ensures e.if-number-ne-ACCEPTED.false in shown), (let shown : length e.args.events.now ≤ length e.args.answers.now = let a = e.args in let r = e.read_set-read in let n = e.run_number-number in room_enough a.plan.now a.images.now a.one.now a.two.now a.three.now a.four.now a.events.now a.answers.now r.result r.ensures n.result n.ensures e.if-number-ne-ACCEPTED.false in shown)) }
+
+pub write_images-requires : goal.write_images-requires
+write_images-requires c =
+    (let shown : length c.args.images.now ≡ image_size * c.read_set-read.result.set.count = let a = c.args in let r = c.read_set-read in let n = c.run_number-number in images_long a.plan.now a.images.now a.one.now a.two.now a.three.now a.four.now a.events.now a.answers.now r.result r.ensures n.result n.ensures c.if-number-ne-ACCEPTED.false in shown)
+
+pub returns : goal.returns
+returns c =
+    let i = c in
+    let d = i in
+    let e = d in
+    let a = e.args in
+    let r = e.read_set-read in
+    let n = e.run_number-number in
+    run_written a.plan.now a.images.now a.one.now a.two.now a.three.now a.four.now
+    a.events.now a.answers.now r.result r.ensures n.result n.ensures
+    e.if-number-ne-ACCEPTED.false _ _ _ d.run_events-last.ensures i.write_images.ensures
