@@ -5,47 +5,35 @@
 #![tactic(auto)]
 
 use calendar::{Advanced, Calendar};
-use libc::STDOUT_FILENO;
+use std::io;
 
-fn print(text: &[u8]) {
-    io::write_all(STDOUT_FILENO, text);
-}
-
-// Two digits of a BCD byte.
-fn print_digits(byte: u8) {
-    io::print_hex(STDOUT_FILENO, byte as u64, 2);
-}
-
-// A calendar as the table writes it: time, date, day.
-fn print_calendar(calendar: Calendar) {
-    print_digits(calendar.hours);
-    print(b":");
-    print_digits(calendar.minutes);
-    print(b":");
-    print_digits(calendar.seconds);
-    print(b" ");
-    print_digits(calendar.date);
-    print(b"/");
-    print_digits(calendar.month);
-    print(b"/");
-    print_digits(calendar.year);
-    print(b" day ");
-    io::print_decimal(STDOUT_FILENO, calendar.day as u64);
+// A calendar as the table writes it: time, date, day. Two digits for each BCD byte.
+fn print_calendar(rt: &impl Print, calendar: Calendar) -> io::Result<()> {
+    let Calendar {
+        seconds,
+        minutes,
+        hours,
+        day,
+        date,
+        month,
+        year,
+    } = calendar;
+    print!(rt;
+        "{hours:02x}:{minutes:02x}:{seconds:02x} {date:02x}/{month:02x}/{year:02x} day {day}"
+    )
 }
 
 // One case: a calendar, and what the next second makes of it.
-fn print_case(name: &[u8], from: Calendar) {
-    print(name);
-    print(b" ");
-    print_calendar(from);
-    print(b" -> ");
+fn print_case(rt: &impl Print, name: &str, from: Calendar) -> io::Result<()> {
+    print!(rt; "{name} ")?;
+    print_calendar(rt, from)?;
+    print!(rt; " -> ")?;
     let next = from.next();
-    let calendar = next.calendar;
-    print_calendar(calendar);
+    print_calendar(rt, next.calendar)?;
     if next.century {
-        print(b" CF");
+        print!(rt; " CF")?;
     }
-    print(b"\n");
+    println!(rt; "")
 }
 
 // The last second of a day.
@@ -61,11 +49,11 @@ fn last_of(day: u8, date: u8, month: u8, year: u8) -> Calendar {
     }
 }
 
-fn print_cases() {
-    print_case(b"K1", last_of(7, 0x31, 0x12, 0x99));
-    print_case(b"K2", last_of(4, 0x28, 0x02, 0x08));
-    print_case(b"K3", last_of(6, 0x28, 0x02, 0x09));
-    print_case(b"K4", last_of(2, 0x29, 0x02, 0x00));
+fn print_cases(rt: &impl Print) -> io::Result<()> {
+    print_case(rt, "K1", last_of(7, 0x31, 0x12, 0x99))?;
+    print_case(rt, "K2", last_of(4, 0x28, 0x02, 0x08))?;
+    print_case(rt, "K3", last_of(6, 0x28, 0x02, 0x09))?;
+    print_case(rt, "K4", last_of(2, 0x29, 0x02, 0x00))?;
     let noon = Calendar {
         seconds: 0x09,
         minutes: 0x34,
@@ -75,7 +63,7 @@ fn print_cases() {
         month: 0x06,
         year: 0x24,
     };
-    print_case(b"K5", noon);
+    print_case(rt, "K5", noon)?;
     let evening = Calendar {
         seconds: 0x59,
         minutes: 0x59,
@@ -85,7 +73,7 @@ fn print_cases() {
         month: 0x06,
         year: 0x24,
     };
-    print_case(b"K6", evening);
+    print_case(rt, "K6", evening)?;
     let no_such_date = Calendar {
         seconds: 0x00,
         minutes: 0x00,
@@ -95,7 +83,7 @@ fn print_cases() {
         month: 0x04,
         year: 0x24,
     };
-    print_case(b"K7", no_such_date);
+    print_case(rt, "K7", no_such_date)
 }
 
 // A sum with one more byte; the remainder keeps it small.
@@ -120,12 +108,8 @@ fn with_midnight(sum: u32, next: Advanced) -> u32 {
     }
 }
 
-fn print_year(year: u8, sum: u32) {
-    print(b"year ");
-    print_digits(year);
-    print(b" sum ");
-    io::print_decimal(STDOUT_FILENO, sum as u64);
-    print(b"\n");
+fn print_year(rt: &impl Print, year: u8, sum: u32) -> io::Result<()> {
+    println!(rt; "year {year:02x} sum {sum}")
 }
 
 // How far the walk through the century came: the last second of a day, and the sum over the midnights before it.
@@ -136,32 +120,33 @@ struct Walk {
 }
 
 // Over one midnight, to the last second of the next day; a line at the end of a year.
-fn over_midnight(walk: Walk) -> Walk {
+fn over_midnight(rt: &impl Print, walk: Walk) -> io::Result<Walk> {
     let today = walk.today;
     let next = today.next();
     let sum = with_midnight(walk.sum, next);
     let after = next.calendar;
     if after.year != today.year {
-        print_year(today.year, sum);
+        print_year(rt, today.year, sum)?;
     }
-    Walk {
+    Ok(Walk {
         today: last_of(after.day, after.date, after.month, after.year),
         sum: sum,
-    }
+    })
 }
 
 // Every midnight of the century, each day reached from the one before.
-fn print_midnights() {
+fn print_midnights(rt: &impl Print) -> io::Result<()> {
     let mut walk = Walk {
         today: last_of(1, 0x01, 0x01, 0x00),
         sum: 0,
     };
     for _ in 0..36525u32 {
-        walk = over_midnight(walk);
+        walk = over_midnight(rt, walk)?;
     }
+    Ok(())
 }
 
-fn main() {
-    print_cases();
-    print_midnights();
+fn main(rt: HostRuntime) -> io::Result<()> {
+    print_cases(&rt)?;
+    print_midnights(&rt)
 }
