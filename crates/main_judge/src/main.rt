@@ -7,58 +7,46 @@
 //   too long
 #![tactic(auto)]
 
+ghost use Rattle.std.specs.Prelude.{◌≤◌, IfOk, length};
+
 use c_judge::Verdict;
 use c_judge::judge::judge;
-use libc::{STDIN_FILENO, STDOUT_FILENO};
+use std::io;
+use std::io::Read;
 
 // One byte more than the longest capture, to know that there are more.
 const ROOM: usize = 61441;
 
-fn print(text: &[u8]) {
-    io::write_all(STDOUT_FILENO, text);
-}
-
-fn print_number(number: u64) {
-    io::print_decimal(STDOUT_FILENO, number);
-}
-
-fn print_byte(byte: u8) {
-    io::print_hex(STDOUT_FILENO, byte as u64, 2);
-}
-
-fn say(verdict: Verdict) {
+fn say(rt: &impl Print, verdict: Verdict) -> io::Result<()> {
     match verdict {
-        Verdict::Agree(count) => {
-            print(b"all agree: ");
-            print_number(count as u64);
-            print(b" answers\n");
-        }
+        Verdict::Agree(count) => println!(rt; "all agree: {count} answers"),
         Verdict::Differs {
             place,
             recorded,
             right,
-        } => {
-            print(b"answer ");
-            print_number(place as u64);
-            print(b" differs: recorded ");
-            print_byte(recorded);
-            print(b", right ");
-            print_byte(right);
-            print(b"\n");
-        }
-        Verdict::Faulty(entry) => {
-            print(b"entry ");
-            print_number(entry as u64);
-            print(b" is faulty\n");
-        }
-        Verdict::TooLong => print(b"too long\n"),
+        } => println!(rt; "answer {place} differs: recorded {recorded:02x}, right {right:02x}"),
+        Verdict::Faulty(entry) => println!(rt; "entry {entry} is faulty"),
+        Verdict::TooLong => println!(rt; "too long"),
     }
 }
 
-fn main() {
-    let mut buffer = [0u8; ROOM];
-    let count = io::read_full(STDIN_FILENO, &mut buffer);
-    if count <= ROOM {
-        say(judge(&buffer[..count]));
+// Reads until the buffer is full or the input ends, and returns how many bytes were read.
+fn read_full(input: &mut impl Read, buffer: &mut [u8]) -> io::Result<usize>
+    ensures { IfOk result (λ n. n ≤ length buffer.new) }
+{
+    let mut done = 0;
+    while done < buffer.len() {
+        let count = input.read(&mut buffer[done..])?;
+        if count == 0 {
+            break;
+        }
+        done += count;
     }
+    Ok(done)
+}
+
+fn main(rt: HostRuntime) -> io::Result<()> {
+    let mut buffer = [0u8; ROOM];
+    let count = read_full(&mut rt.reader(), &mut buffer)?;
+    say(&rt, judge(&buffer[..count]))
 }
