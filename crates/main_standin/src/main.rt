@@ -20,18 +20,18 @@ use fm3130::State;
 use fm3130_accept::decode;
 use fm3130_image::write::image_of;
 use fm3130_image::{Decoded, LENGTH, MEMORY};
-use libc::{STDIN_FILENO, STDOUT_FILENO};
 use numbers::ACCEPTED;
+use std::io;
+use std::io::{ErrorKind, Read};
 
 // A length that stands for a fresh device.
 const ANEW: usize = 65535;
 
+// Room for the longest frame of events.
+const ROOM: usize = 65536;
+
 // The most frames that one run reads.
 const FRAMES: u32 = 1000000;
-
-fn print(text: &[u8]) {
-    io::write_all(STDOUT_FILENO, text);
-}
 
 // A byte as a wider number.
 fn wide(byte: u8) -> u64
@@ -56,9 +56,8 @@ fn sum_of(bytes: &[u8]) -> u64 {
     sum
 }
 
-fn print_sum(bytes: &[u8]) {
-    io::print_hex(STDOUT_FILENO, sum_of(bytes), 8);
-    print(b"\n");
+fn print_sum(rt: &impl Print, bytes: &[u8]) -> io::Result<()> {
+    println!(rt; "{:08x}", sum_of(bytes))
 }
 
 // A fresh device, its memory all 0.
@@ -67,23 +66,35 @@ fn begin(image: &mut [u8], memory: &mut [u8]) {
     clear(memory);
 }
 
-fn report(image: &[u8], memory: &[u8]) {
-    print(b"image ");
-    let mut i = 0;
-    while i < image.len() {
-        io::print_hex(STDOUT_FILENO, wide(image[i]), 2);
-        i += 1;
+fn report(rt: &impl Print, image: &[u8], memory: &[u8]) -> io::Result<()> {
+    print!(rt; "image ")?;
+    for byte in image {
+        print!(rt; "{byte:02x}")?;
     }
-    print(b" memory ");
-    print_sum(memory);
+    print!(rt; " memory ")?;
+    print_sum(rt, memory)
+}
+
+// Reads as many bytes as the buffer has; false where the input ends before.
+fn read_all(input: &mut impl Read, buffer: &mut [u8]) -> io::Result<bool> {
+    match input.read_exact(buffer) {
+        Ok(()) => Ok(true),
+        Err(e) => {
+            if e.kind() == ErrorKind::UnexpectedEof {
+                Ok(false)
+            } else {
+                Err(e)
+            }
+        }
+    }
 }
 
 // Reads so many event bytes; false where the input ends before.
-fn read_events(events: &mut [u8], length: usize) -> bool {
+fn read_events(input: &mut impl Read, events: &mut [u8], length: usize) -> io::Result<bool> {
     if events.len() < length {
-        return false;
+        return Ok(false);
     }
-    length <= io::read_full(STDIN_FILENO, &mut events[..length])
+    read_all(input, &mut events[..length])
 }
 
 // What one event by value leaves, and whether it was answered as the list run answered it.
@@ -148,47 +159,53 @@ fn by_value_too(
 }
 
 // Runs events and writes a line: the number, the count, and the sum of the answers.
-fn run_events(image: &mut [u8], memory: &mut [u8], events: &[u8], answers: &mut [u8]) {
+fn run_events(
+    rt: &impl Print,
+    image: &mut [u8],
+    memory: &mut [u8],
+    events: &[u8],
+    answers: &mut [u8],
+) -> io::Result<()> {
     if image.len() != LENGTH {
-        return;
+        return Ok(());
     }
     if memory.len() != MEMORY {
-        return;
+        return Ok(());
     }
     let mut before = [0u8; LENGTH];
     let mut memory_before = [0u8; MEMORY];
     copy(image, &mut before);
     copy(memory, &mut memory_before);
     let ran = fm3130_run(image, memory, events, answers);
-    io::print_decimal(STDOUT_FILENO, ran.number);
-    print(b" ");
-    io::print_decimal(STDOUT_FILENO, ran.count);
-    print(b" ");
-    print_sum(answers);
+    print!(rt; "{} {} ", ran.number, ran.count)?;
+    print_sum(rt, answers)?;
     if !by_value_too(&before, &mut memory_before, events, answers, image, memory) {
-        print(b"by value it differs\n");
+        println!(rt; "by value it differs")?;
     }
+    Ok(())
 }
 
 // A frame of events; false where the input ends before its end.
 fn run_frame(
+    rt: &impl Print,
+    input: &mut impl Read,
     image: &mut [u8],
     memory: &mut [u8],
     events: &mut [u8],
     answers: &mut [u8],
     length: usize,
-) -> bool {
-    if !read_events(events, length) {
-        return false;
+) -> io::Result<bool> {
+    if !read_events(input, events, length)? {
+        return Ok(false);
     }
     if events.len() < length {
-        return false;
+        return Ok(false);
     }
     if answers.len() < length {
-        return false;
+        return Ok(false);
     }
-    run_events(image, memory, &events[..length], &mut answers[..length]);
-    true
+    run_events(rt, image, memory, &events[..length], &mut answers[..length])?;
+    Ok(true)
 }
 
 // The length that a frame's two first bytes say.
@@ -197,37 +214,59 @@ fn length_of(low: u8, high: u8) -> usize {
 }
 
 // One frame; false where the input has ended.
-fn one_frame(image: &mut [u8], memory: &mut [u8], events: &mut [u8], answers: &mut [u8]) -> bool {
+fn one_frame(
+    rt: &impl Print,
+    input: &mut impl Read,
+    image: &mut [u8],
+    memory: &mut [u8],
+    events: &mut [u8],
+    answers: &mut [u8],
+) -> io::Result<bool> {
     let mut header = [0u8; 2];
-    if io::read_full(STDIN_FILENO, &mut header) < 2 {
-        return false;
+    if !read_all(input, &mut header)? {
+        return Ok(false);
     }
     let length = length_of(header[0], header[1]);
     if length == ANEW {
         begin(image, memory);
-        return true;
+        return Ok(true);
     }
     if length == 0 {
-        report(image, memory);
-        return true;
+        report(rt, image, memory)?;
+        return Ok(true);
     }
-    run_frame(image, memory, events, answers, length)
+    run_frame(rt, input, image, memory, events, answers, length)
 }
 
 // Every frame of the input.
-fn all_frames(image: &mut [u8], memory: &mut [u8], events: &mut [u8], answers: &mut [u8]) {
+fn all_frames(
+    rt: &impl Print,
+    input: &mut impl Read,
+    image: &mut [u8],
+    memory: &mut [u8],
+    events: &mut [u8],
+    answers: &mut [u8],
+) -> io::Result<()> {
     for _ in 0..FRAMES {
-        if !one_frame(image, memory, events, answers) {
-            return;
+        if !one_frame(rt, input, image, memory, events, answers)? {
+            return Ok(());
         }
     }
+    Ok(())
 }
 
-fn main() {
+fn main(rt: HostRuntime) -> io::Result<()> {
     let mut image = [0u8; LENGTH];
     let mut memory = [0u8; MEMORY];
-    let mut events = io::large_buffer();
-    let mut answers = io::large_buffer();
+    let mut events = [0u8; ROOM];
+    let mut answers = [0u8; ROOM];
     begin(&mut image, &mut memory);
-    all_frames(&mut image, &mut memory, &mut events, &mut answers);
+    all_frames(
+        &rt,
+        &mut rt.reader(),
+        &mut image,
+        &mut memory,
+        &mut events,
+        &mut answers,
+    )
 }
