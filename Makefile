@@ -1,19 +1,17 @@
 # SPDX-License-Identifier: Apache-2.0
 # The stand-in's commands. `make help` lists them; `make test` is the whole test.
 #
-# rt works in target/, which `rt ci` removes whole; everything else is built in build/.
-# tools/jobs.sh says how many crates and edits rt has under way at a time; RT_JOBS=1 makes it one.
+# rt works in crates/NAME/out; everything else is built in build/, where no link and no .rt or .antt file may be left, since `rt ci`
+# refuses those.
 
 SHELL := bash
 .SHELLFLAGS := -euo pipefail -c
 .DEFAULT_GOAL := help
 .NOTPARALLEL:
 
-export RT_JOBS := $(shell tools/jobs.sh)
-
-# The crates that export functions to C, each an object of its own in libfm3130.a: build/native for this machine,
-# build/official for x86-64.
-ARCHIVES := c_run c_view c_step c_line c_run_number c_mend c_catch_up c_master c_masters c_judge c_lamps c_trim c_fm31 c_fm31set c_pins
+# The static libraries of crates.txt, which export functions to C, each an object of its own in libfm3130.a: build/native for this
+# machine, build/official for x86-64.
+ARCHIVES := $(shell sed -n 's/^\([a-z0-9_]*\) staticlib *:.*/\1/p' crates.txt)
 
 # Where `make install` puts all that it installs; DESTDIR goes before it.
 PREFIX ?= /usr/local
@@ -52,15 +50,15 @@ SECONDS := 200
 help: ## list these targets
 	@awk -F':.*## ' '/^[a-z-]+:.*## / { printf "make %-11s %s\n", $$1, $$2 }' Makefile
 
-# It ends in `rt ci`, whose "N passed, 0 failed" is the last line printed.
-test: setup ## everything: set-up, all proofs from nothing (rt ci), the tests in C, Python and Rust on what was just proved
+# The last line of `rt ci`, "N passed, M failed", is the last line printed.
+test: setup ## everything: set-up, all proofs and edits (rt ci), then the tests in C, Python and Rust on what was proved
 	@tools/test.sh
 
 tests: lib dist-check ctest python-test few-twins ## the tests in C, Python and Rust alone, and three twins
 	@$(CARGO_TEST)
 
-check: ## prove the crates that changed, and run the programs
-	@tools/proving.sh build/log/check.txt rt check || { cat build/log/check.txt; exit 1; }
+check: ## prove the crates that changed, see to their layout, and run the programs
+	@tools/proving.sh build/log/check.txt rt all test || { cat build/log/check.txt; exit 1; }
 	@tail -n 1 build/log/check.txt
 
 # The command is compiled without optimization, which takes half as long.
@@ -86,7 +84,7 @@ library: setup-library ## the library for C, Rust and Python, in build/lib: the 
 	@tools/library.sh --or-prove
 
 lib: archives ## prove the library: build/native (this machine), build/official (x86-64); then as `make library`
-	@for folder in build/native build/official; do \
+	@[ -z "$(ARCHIVES)" ] || for folder in build/native build/official; do \
 		tools/join-archives.sh "$$folder" $(ARCHIVES); tools/sources.sh >"$$folder/SOURCES"; done
 	@tools/library.sh
 
@@ -123,7 +121,7 @@ ctest: library host ## the archives through the C headers (the official one too)
 	@build/ctest/native $(FRAMES)
 	@$(PATIENT) 'being tested' tools/run-x86-64.sh build/ctest/official $(FRAMES)
 	@build/ctest/plusplus
-	@tests/c/library.sh build/ctest/library
+	@tests/c/library.sh
 	@tests/c/install.sh build/ctest/install $(CC)
 	@tests/c/alone.sh build/ctest/alone build/lib/libfm3130.a $(CC)
 	@tests/c/alone.sh build/ctest/alone build/lib/x86_64/libfm3130.a $(CC_X86_64)
@@ -163,7 +161,7 @@ compare: library ## the proved program and the second program, side by side
 quotations: library ## compare/quotations.sums: every quotation is looked up in the papers, which are in ../shared
 	@$(CARGO_RUN) --package compare --bin write_quotations
 
-edits: library ## docs/EDITS.md, from what the prover last said of each edit (rt must-fail, rt ci, make all-edits)
+edits: library ## docs/EDITS.md, from what the prover last said of each edit (make test, make all-edits)
 	@$(CARGO_RUN) --package compare --bin write_edits
 
 # More than an hour on two cores, so `make test` tries those of crates/*/must-fail alone.
@@ -218,11 +216,11 @@ fuzz: library ## chosen bytes at the archive's C boundary, five targets for SECO
 	@$(PATIENT) 'beside: chosen bytes' tools/fuzz.sh $(SECONDS) beside
 
 fmt: ## format all Rattle and Rust files
-	@rt fmt
+	@for crate in crates/*/; do (cd "$$crate" && rt fmt); done
 	@cargo fmt
 
 fmt-check: ## say which files are not in the layout
-	@rt fmt --check
+	@tools/fmt-check.sh
 	@cargo fmt --check
 
 setup: ## install what is missing for `make test`
@@ -232,4 +230,4 @@ setup-library:
 	@tools/setup.sh library
 
 clean: ## remove all that was built
-	@rm -rf target build
+	@rm -rf build crates/*/out

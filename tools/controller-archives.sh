@@ -15,7 +15,7 @@ fail() { printf 'controller-archives: %s\n' "$*" >&2; exit 1; }
 [ $# -ge 1 ] || fail "usage: controller-archives.sh CRATE..."
 cd "$(dirname "$0")/.."
 . tools/controller-options.sh
-tools=$(tools/kit.sh)/on/$(uname -m)/toolchain/bin
+tools=$(tools/kit.sh)/toolchain/bin
 built=build/controller
 
 # ---- what the archives are made from

@@ -7,8 +7,8 @@
 # riscv32: RV32IMAC.
 controller_targets=${TARGETS:-thumbv7em thumbv7emhf thumbv6m riscv32}
 
-# The options that name a target to the kit's compiler. Those of the machines under Linux are those of tools/native-archive.sh, and
-# x86-64 is the official archive's; what runs on a controller or in a browser has no use for position-independent code.
+# The options that name a target to the kit's compiler. x86-64 is the official archive's, so its options are rattle's own; what runs
+# on a controller or in a browser has no use for position-independent code.
 options_for() { # TARGET
     case $1 in
     x86_64 | aarch64) echo --target="$1-linux-gnu" -fPIC ;;
@@ -27,7 +27,8 @@ compile_module() { # MODULE OBJECT OPTION...
     module=$1 object=$2
     shift 2
     "$tools/clang" "$@" --no-default-config -Wno-override-module -O3 -ffunction-sections -fdata-sections \
-        -mllvm -trap-unreachable -mllvm -no-trap-after-noreturn -c -x ir "$module" -o "$object" 2>"$work/words" ||
+        -mllvm -trap-unreachable -mllvm -no-trap-after-noreturn -mllvm -no-x86-call-frame-opt -mllvm -disable-machine-licm \
+        -mllvm -disable-postra-machine-licm -mllvm -sink-common-insts=false -c -x ir "$module" -o "$object" 2>"$work/words" ||
         { cat "$work/words" >&2; fail "$module: not compiled for $1"; }
     ! grep -v 'is not a recognized processor for this target' "$work/words" >&2 || fail "$module: $1: see above"
 }

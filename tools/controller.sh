@@ -16,7 +16,7 @@ fail() { printf 'controller: %s\n' "$*" >&2; exit 1; }
 
 cd "$(dirname "$0")/.."
 . tools/controller-options.sh
-tools=$(tools/kit.sh)/on/$(uname -m)/toolchain/bin
+tools=$(tools/kit.sh)/toolchain/bin
 built=build/controller
 sources=tests/controller
 wires='tests/wires/wires.c tests/wires/master.c tests/wires/sessions.c'

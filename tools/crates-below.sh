@@ -16,9 +16,8 @@ awk -v wanted="$*" '
     }
     { sub(/#.*/, "") }
     /:/ {
-        name = substr($0, 1, index($0, ":") - 1)
-        gsub(/[ \t]/, "", name)
-        needs[name] = substr($0, index($0, ":") + 1)
+        split(substr($0, 1, index($0, ":") - 1), words, " ") # NAME, or NAME staticlib
+        needs[words[1]] = substr($0, index($0, ":") + 1)
     }
     END {
         count = split(wanted, first, " ")

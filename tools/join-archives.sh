@@ -12,7 +12,7 @@ fail() { printf 'join-archives: %s\n' "$*" >&2; exit 1; }
 
 [ $# -ge 2 ] || fail "usage: join-archives.sh FOLDER CRATE..."
 cd "$(dirname "$0")/.."
-tools=$(tools/kit.sh)/on/$(uname -m)/toolchain/bin
+tools=$(tools/kit.sh)/toolchain/bin
 folder=$1
 shift
 joined=$folder/libfm3130.a

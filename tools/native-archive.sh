@@ -1,25 +1,21 @@
 #!/bin/sh
 # SPDX-License-Identifier: Apache-2.0
-# native-archive.sh [--stale] CRATE: compiles a proved crate for the machine at hand. With --stale it
-# only prints the crate's name, where there is something to do.
+# native-archive.sh [--stale] CRATE: compiles a static library of crates.txt, once all below it is built (native-archives.sh sees to
+# that). With --stale it only prints the crate's name, where there is something to do.
 #
-# `rt staticlib` proves a crate, lowers it to one LLVM module and has the kit's clang compile that
-# module for x86-64, on every machine. Here `rt` is given a kit of links whose clang is a small
-# script: it keeps a copy of the module and then calls the kit's own clang, so the official archive
-# is what it always is. The copy is then compiled for this machine by the same clang, with the same
-# options for code but for the target. What is written, all below the repository's top:
+# `rattle build` checks the crate, lowers it to one LLVM module and has a clang compile that, as `rt lib` has it do. Here it is
+# given a toolchain of links, whose clang is a small script: it keeps a copy of the module and then calls the kit's own clang. So
+# the archive is what `rt lib` makes, byte for byte, and the module is at hand for other machines (controller-options.sh). What is
+# written, all below the repository's top:
 #
-#   build/official/libCRATE.a   the archive of `rt staticlib`, for x86-64
+#   build/official/libCRATE.a   the archive, for x86-64
 #   build/bitcode/CRATE.bc      the proved program as an LLVM module
 #   build/native/libCRATE.a     that module compiled for this machine
 #   build/native/CRATE.stamp    a sum over all that these were made from
 #   build/log/CRATE.txt         what the prover and the compiler said
 #
-# Nothing is done while the stamp still fits. Two of these may run at once in one repository, for two
-# crates, if all that stands below them is proved (native-archives.sh sees to that).
-#
-# Exported functions must take integers and slices and return at most two words: a larger struct is
-# returned in another way on each kind of machine.
+# Nothing is done while the stamp still fits. Exported functions must take integers and slices and return at most two words: a larger
+# struct is returned in another way on each kind of machine.
 set -eu
 
 fail() { printf 'native-archive: %s\n' "$*" >&2; exit 1; }
@@ -29,7 +25,10 @@ ask=''
 [ $# -eq 1 ] || fail "usage: native-archive.sh [--stale] CRATE"
 crate=$1
 cd "$(dirname "$0")/.."
+top=$PWD
+. tools/controller-options.sh
 kit=$(tools/kit.sh)
+tools=$kit/toolchain/bin
 machine=$(uname -m)
 
 # ---- what the archive is made from
@@ -39,60 +38,49 @@ sum_of() { # CRATE...
     {
         rt version
         echo "$machine"
-        sha256sum tools/native-archive.sh
+        sha256sum tools/native-archive.sh tools/controller-options.sh
         for name in "$@"; do
             echo "crate $name"
-            grep "^[[:blank:]]*${name}[[:blank:]]*:" crates.txt
-            find "crates/$name" \( -path '*/src/*' -o -path '*/specs/*' -o -path '*/proofs/*' \) -type f \
-                -exec sha256sum {} + | LC_ALL=C sort
+            tools/sum-of-crate.sh "$name"
         done
     } | sha256sum | cut -d' ' -f1
 }
 
 below=$(tools/crates-below.sh "$crate")
-[ -n "$below" ] || fail "crates.txt does not list $crate"
+grep -q "^$crate staticlib *:" crates.txt || fail "crates.txt has no static library $crate"
 
 official=build/official/lib$crate.a
-module=build/bitcode/$crate.bc
+bitcode=build/bitcode/$crate.bc
 native=build/native/lib$crate.a
 stamp=build/native/$crate.stamp
-log=build/log/$crate.txt
+log=$top/build/log/$crate.txt
 
 # shellcheck disable=SC2086 # one word a crate
 sum=$(sum_of $below)
-if [ -f "$official" ] && [ -f "$module" ] && [ -f "$native" ] && [ "$(cat "$stamp" 2>/dev/null)" = "$sum" ]; then
+if [ -f "$official" ] && [ -f "$bitcode" ] && [ -f "$native" ] && [ "$(cat "$stamp" 2>/dev/null)" = "$sum" ]; then
     echo "native-archive: $native is up to date" >&2
     exit 0
 fi
 [ -z "$ask" ] || { echo "$crate"; exit 0; }
 
-# ---- a kit of links whose clang keeps the module
+# ---- a toolchain of links whose clang keeps the module
 
 began=$(date +%s)
 mkdir -p build/official build/bitcode build/native build/log
-rm -f "$official" "$module" "$native" "$stamp" # where this run fails, no older archive is left to link
-work=$(mktemp -d "$PWD/build/native/$crate.XXXXXX")
+rm -f "$official" "$bitcode" "$native" "$stamp" # where this run fails, no older archive is left to link
+work=$(mktemp -d) # no link may lie in the repository
 trap 'rm -rf "$work"' EXIT
 trap 'exit 1' HUP INT TERM
 
-# Makes the folder TO, with a link in it to each entry of FROM but one.
-link_all_but() { # EXCEPT FROM TO
-    mkdir -p "$3"
-    for entry in "$2"/*; do
-        [ "${entry##*/}" = "$1" ] || ln -s "$entry" "$3/"
-    done
-}
-
-own=on/$machine
-tools=$own/toolchain
-link_all_but on "$kit" "$work/kit"
-link_all_but toolchain "$kit/$own" "$work/kit/$own"
-link_all_but bin "$kit/$tools" "$work/kit/$tools"
-link_all_but clang "$kit/$tools/bin" "$work/kit/$tools/bin"
-ln -s "$kit/$tools/bin" "$work/kit/$tools/real"
+mkdir -p "$work/toolchain/bin"
+ln -s "$kit/toolchain/lib" "$work/toolchain/lib"
+for tool in "$tools"/*; do
+    [ "${tool##*/}" = clang ] || ln -s "$tool" "$work/toolchain/bin/"
+done
+ln -s "$tools" "$work/toolchain/real"
 
 # rattle starts clang with an empty environment, so the script finds all from its own place.
-cat >"$work/kit/$tools/bin/clang" <<'CLANG'
+cat >"$work/toolchain/bin/clang" <<'CLANG'
 #!/bin/sh
 tools=${0%/bin/*}
 for word in "$@"; do
@@ -105,18 +93,7 @@ for word in "$@"; do
 done
 exec "$tools/real/clang" "$@"
 CLANG
-chmod +x "$work/kit/$tools/bin/clang"
-
-# ---- a repository of links
-
-# `rt staticlib` notes of each crate below, in target/log, first that it failed and then that it is
-# proved, and reads that back: two at once could read each other's notes. So each has a target/ of its
-# own, but for what is proved.
-mkdir -p target/rlib target/stamp "$work/top/target"
-cp crates.txt "$work/top/crates.txt"
-ln -s "$PWD/crates" "$work/top/crates"
-ln -s "$PWD/target/rlib" "$PWD/target/stamp" "$work/top/target/"
-made=$work/top/target/staticlib/lib$crate.a
+chmod +x "$work/toolchain/bin/clang"
 
 # ---- the two archives
 
@@ -127,30 +104,38 @@ logged() { # WHAT COMMAND...
     "$@" >>"$log" 2>&1 || { cat "$log" >&2; fail "$crate: $what FAILED (what was said stands above and in $log)"; }
 }
 
-: >"$log"
-logged "rt staticlib" env -C "$work/top" RATTLE_HOME="$work/kit" rt staticlib "$crate"
-kept=$work/kit/$tools/kept.bc
-[ -f "$kept" ] || fail "rt staticlib $crate compiled no LLVM module: nothing to make a native archive from"
+# The words that `rt lib` gives to rattle, but for the toolchain. The crates that it names, and those below them:
+set -- --crate-name "$crate" src/lib.rt --extern "std=$kit/rlibs/std.rlib" -L "dependency=$kit/rlibs"
+for name in $(sed -n "s/^$crate staticlib *://p" crates.txt); do
+    set -- "$@" --extern "$name=$top/crates/$name/out/rlib/$name.rlib"
+done
+for name in $below; do
+    [ "$name" = "$crate" ] || set -- "$@" -L "dependency=$top/crates/$name/out/rlib"
+done
+set -- "$@" --antt-project "$kit/rattle/logic/antt-project.json" --logic-built "$kit/logic_built" --jobs 1 --links "$crate=" \
+    --crate-type staticlib --backend llvm --incremental out/incremental --toolchain "$work/toolchain" -o "$work/made.a"
 
-# Compiles the module for a machine, with those options of rattle's that shape code, but for the target.
-compile_for() { # MACHINE OBJECT
-    logged "compiling for $1" "$kit/$tools/bin/clang" --target="$1-linux-gnu" --no-default-config \
-        -Wno-override-module -O3 -fPIC -ffunction-sections -fdata-sections \
-        -mllvm -trap-unreachable -mllvm -no-trap-after-noreturn -c -x ir "$kept" -o "$2"
-}
+# rt too locks the crate's folder while it works in it.
+: >"$log"
+mkdir -p "crates/$crate/out"
+logged "rattle build" flock "crates/$crate" env -C "crates/$crate" "$kit/bin/rattle" build "$@"
+kept=$work/toolchain/kept.bc
+[ -f "$kept" ] || fail "rattle build compiled no LLVM module of $crate: nothing to make a native archive from"
 
 # Compiled for x86-64, the module must be the official object byte for byte: so it is the module
-# that the archive was made from, and the options above are enough to make the same code.
-compile_for x86_64 "$work/x86_64.o"
-"$kit/$tools/bin/llvm-ar" p "$made" >"$work/official.o"
+# that the archive was made from, and the options are enough to make the same code.
+# shellcheck disable=SC2046 # one word an option
+compile_module "$kept" "$work/x86_64.o" $(options_for x86_64)
+"$tools/llvm-ar" p "$work/made.a" >"$work/official.o"
 cmp -s "$work/x86_64.o" "$work/official.o" ||
     fail "$crate: the module compiled here for x86-64 is not the official object: has the kit's compile line changed?"
 
-compile_for "$machine" "$work/$crate.o"
-logged "llvm-ar" "$kit/$tools/bin/llvm-ar" rcs "$work/lib$crate.a" "$work/$crate.o"
+# shellcheck disable=SC2046
+compile_module "$kept" "$work/$crate.o" $(options_for "$machine")
+logged "llvm-ar" "$tools/llvm-ar" rcs "$work/lib$crate.a" "$work/$crate.o"
 
-cp "$made" "$official"
-cat "$kept" >"$module" # the compiler's own copy is for its owner alone
-mv "$work/lib$crate.a" "$native"
+cp "$work/made.a" "$official"
+cat "$kept" >"$bitcode" # the compiler's own copy is for its owner alone
+cp "$work/lib$crate.a" "$native"
 echo "$sum" >"$stamp"
 echo "native-archive: $native made for $machine from the proved module of $crate ($(($(date +%s) - began)) s)"

@@ -1,71 +1,49 @@
 #!/bin/bash
 # SPDX-License-Identifier: Apache-2.0
-# proving.sh LOG COMMAND...: runs a command that proves crates (rt check, rt ci), with what it says in LOG, and shows
-# meanwhile one line a crate as it is proved, with how many are done: "proved 12 of 67: companion (24 s)".
-#
-# rt prints what a batch of crates said once the whole batch has ended, which may be a minute; but it writes
-# target/log/CRATE.out as soon as that crate has. So the lines are read there. Where nothing ends for ten seconds, a line says
-# which crates are under way.
+# proving.sh LOG COMMAND...: runs a command that proves crates (rt all, rt lib, rt ci, rt must-fail), with what it says in LOG, and
+# shows meanwhile how far it is: a line for each crate that it is done with, and where nothing is said for ten seconds, the last line
+# that it said. The status is the command's.
 set -euo pipefail
 
 [ $# -ge 2 ] || { echo "usage: proving.sh LOG COMMAND..." >&2; exit 2; }
 said=$1
 shift
-cd "$(dirname "$0")/.."
 mkdir -p "$(dirname "$said")"
+began=$SECONDS
 
-# Files of this run are newer than this one.
-begun=$(mktemp)
+: >"$said"
 "$@" >"$said" 2>&1 &
 proofs=$!
-trap 'rm -f "$begun"; kill "$proofs" 2>/dev/null || true' EXIT
+trap 'kill "$proofs" 2>/dev/null || true' EXIT
 trap 'exit 1' HUP INT TERM
 
-# How many crates there are to prove: those that the command names and all below them, or all.
-crates=()
-for word in "${@:3}"; do
-    case $word in -*) ;; *) crates+=("$word") ;; esac
-done
-if [ ${#crates[@]} -gt 0 ]; then
-    total=$(tools/crates-below.sh "${crates[@]}" | wc -l)
-else
-    total=$(sed 's/#.*//' crates.txt | grep -c ':')
-fi
-
-declare -A told=()
-unchanged=0
-silent=0
-
-# Shows what has ended since the last look; says in `news` whether anything has.
+# Shows what was said of whole crates since the last look. Under `rt all` a crate's lines come once it is done, below its name;
+# `rt ci` says what it made of each. Whoever builds a library says what it began with.
+read_so_far=0
 look() {
-    news=''
-    under_way=''
-    local file crate verdict
-    while IFS= read -r file; do
-        crate=$(basename "$file" .out)
-        [ -z "${told[$crate]:-}" ] || continue
-        verdict=$(sed -n "s/^rt: $crate \(proved\|NOT PROVED\)/\1/p" "$file" | tail -n 1)
-        case $verdict in
-        '') under_way="$under_way $crate" ;;
-        'proved (unchanged'*) told[$crate]=yes; unchanged=$((unchanged + 1)) ;;
-        *) told[$crate]=yes; news=yes; echo "${verdict%% (*} ${#told[@]} of $total: $crate (${verdict##* (}" ;;
-        esac
-    done < <(find target/log -name '*.out' -newer "$begun" 2>/dev/null | LC_ALL=C sort)
+    local lines
+    lines=$(wc -l <"$said")
+    [ "$lines" -gt "$read_so_far" ] || return 0
+    sed -n "$((read_so_far + 1)),${lines}p" "$said" |
+        sed -n -e 's/^== \([a-z0-9_]*\)$/  \1/p' -e 's/^rt: \([a-z0-9_]*\( NOT\)\? \(PROVED\|proved\).*\)/  \1/p' \
+            -e 's/^rt: \([a-z0-9_]*\) is kept.*/  \1 is kept/p' -e 's/^rt: must-fail .*\(NOT [A-Z]*\|BAD EDIT\).*/&/p'
+    read_so_far=$lines
 }
 
+next=10
 while kill -0 "$proofs" 2>/dev/null; do
     sleep 1
+    before=$read_so_far
     look
-    silent=$((silent + 1))
-    [ -z "$news" ] || silent=0
-    if [ "$silent" -ge 10 ]; then
-        silent=0
-        [ -z "$under_way" ] || echo "  .. ${#told[@]} of $total, under way:$under_way"
+    passed=$((SECONDS - began))
+    [ "$read_so_far" = "$before" ] || next=$((passed + 10))
+    if [ "$passed" -ge "$next" ]; then
+        echo "  .. $(tail -n 1 "$said" | cut -c1-100) ($passed s)"
+        next=$((passed + 10))
     fi
 done
 
 status=0
 wait "$proofs" || status=$?
 look
-[ "$unchanged" -eq 0 ] || echo "$unchanged of $total were proved before and have not changed"
 exit "$status"

@@ -59,6 +59,7 @@ case ${1:-} in
         # to link a program with the official archive, which is for x86-64
         need x86_64-linux-gnu-gcc gcc-x86-64-linux-gnu
         need_static_libc x86_64-linux-gnu-gcc libc6-dev-amd64-cross
+        need qemu-x86_64 qemu-user # to run that program
     fi
     need_pytest
     need /usr/sbin/i2cdetect i2c-tools # to see that they run on `fm3130 bus`

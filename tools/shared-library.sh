@@ -3,8 +3,8 @@
 # shared-library.sh ARCHIVE VERSION COMPILER: makes libfm3130.so beside ARCHIVE, libfm3130.a, of all its objects, for
 # programs that load a library while they run, as python/ does.
 #
-# Its soname has the first number of VERSION: by include/fm3130.h a host must be changed only when that one changes. A link by
-# that name stands beside it, for programs that were linked with it.
+# Its soname has the first number of VERSION: by include/fm3130.h a host must be changed only when that one changes. A copy by
+# that name stands beside it, for programs that were linked with it (`rt ci` refuses links).
 set -eu
 
 fail() { printf 'shared-library: %s\n' "$*" >&2; exit 1; }
@@ -21,4 +21,4 @@ trap 'rm -f "$part"' EXIT
 "$compiler" -shared -Wl,--whole-archive "$archive" -Wl,--no-whole-archive -Wl,--version-script=tools/shared-library.map \
     -Wl,-soname,"$soname" -Wl,-z,defs -Wl,-z,text -Wl,-z,relro -Wl,-z,now -o "$part"
 cmp -s "$part" "$folder/libfm3130.so" || mv "$part" "$folder/libfm3130.so"
-ln -sf libfm3130.so "$folder/$soname"
+cmp -s "$folder/libfm3130.so" "$folder/$soname" || { cp "$folder/libfm3130.so" "$part" && mv "$part" "$folder/$soname"; }

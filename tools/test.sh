@@ -1,12 +1,11 @@
 #!/bin/bash
 # SPDX-License-Identifier: Apache-2.0
-# test.sh: the whole test. `rt ci` proves every crate from nothing, tries the edits and runs the programs. Once all crates are
-# proved, the archives are made of just that, and the tests in C, Python and Rust run on them (`make tests`) while `rt ci` goes on
-# with the edits. So no crate is proved a second time for the tests.
+# test.sh: the whole test. `rt ci` proves every crate, tries the edits and runs the programs; what it passed on this machine before it
+# does not prove again. Then the archives are made of just that, and the tests in C, Python and Rust run on them (`make tests`).
 #
-# The lines of `rt ci` are printed as they come, but the last one, "N passed, 0 failed", is held back to be the last of all, and
-# is printed only if the tests passed. Where they fail, what they said is printed and `rt ci` is stopped. `rt ci` prints what a batch
-# of crates or edits said once the whole batch has ended: where that takes more than ten seconds, a line says how far it is.
+# The lines of `rt ci` are printed as they come, but the last one, "N passed, M failed", is held back to be the last of all. Where the
+# tests fail, what they said is printed, and they count as one more that failed. `rt ci` itself passes bad edits, which show nothing;
+# here they fail. Where it says nothing for half a minute, a line says how far it is.
 set -euo pipefail
 set -m # a group of processes for each of the two, so that each can be stopped whole
 
@@ -15,26 +14,19 @@ mkdir -p build/log
 started=$SECONDS
 proofs_said=build/log/ci.txt
 tests_said=build/log/tests.txt
-proofs=''
-tests=''
+under_way=''
 
 # Stops what is still under way.
 # shellcheck disable=SC2317 # called by the trap
 stop() {
-    for group in $proofs $tests; do
-        kill -- "-$group" 2>/dev/null || true
-    done
+    [ -z "$under_way" ] || kill -- "-$under_way" 2>/dev/null || true
 }
 trap stop EXIT
 trap 'exit 1' HUP INT TERM
 
-# How far `rt ci` is, by the files that it has written: crates that are proved, or edits that were begun.
+# How far `rt ci` is, by what it has said.
 how_far() {
-    if [ -d target/must-fail ]; then
-        echo "$(find target/must-fail -mindepth 2 -maxdepth 2 -type d | wc -l) of $(find crates/*/must-fail -name '*.edit' | wc -l) edits"
-    else
-        echo "$(grep -ls '^rt: .* proved' target/log/*.out | wc -l) of $(sed 's/#.*//' crates.txt | grep -c ':') crates proved"
-    fi
+    echo "$(grep -cE '^rt: [a-z0-9_]+ (proved|is kept: .*)$' "$proofs_said") of $(sed 's/#.*//' crates.txt | grep -c ':') crates proved"
 }
 
 # Passes lines on as they come, but the last one.
@@ -42,7 +34,7 @@ but_the_last() {
     local line held='' status
     while :; do
         status=0
-        IFS= read -r -t 10 line || status=$?
+        IFS= read -r -t 30 line || status=$?
         if [ "$status" -gt 128 ]; then
             echo "  .. $(how_far) ($((SECONDS - started)) s)"
         elif [ "$status" -gt 0 ]; then
@@ -54,29 +46,41 @@ but_the_last() {
     done
 }
 
-# `rt ci` removes target/ too: what is there from now on is of this run. The tests may have all processors, and `rt ci` what they
-# leave, so that a test that fails ends the run early.
-rm -rf target
-(nice rt ci 2>&1 | tee "$proofs_said" | but_the_last) &
-proofs=$!
+# Prints the last line, with so many more that failed, and ends.
+end() { # STATUS MORE
+    local passed failed
+    read -r passed failed <<<"$(tail -n 1 "$proofs_said" | sed -n 's/^\([0-9]*\) passed, \([0-9]*\) failed$/\1 \2/p')"
+    echo "${passed:-0} passed, $((${failed:-1} + $2)) failed"
+    exit "$1"
+}
 
-# `rt ci` makes this folder when all crates have been tried and the first edit begins.
-while [ ! -d target/must-fail ] && kill -0 "$proofs" 2>/dev/null; do sleep 1; done
-
-if [ -d target/must-fail ] && ! grep -q ' NOT PROVED' "$proofs_said"; then
-    began=$(date +%s)
-    echo "test: all crates are proved; the tests begin"
-    RT_JOBS=$(nproc) make --no-print-directory tests >"$tests_said" 2>&1 &
-    tests=$!
-    wait "$tests" || {
-        cat "$tests_said"
-        echo "test: the tests FAILED: what they said stands above and in $tests_said"
-        exit 1
-    }
-    echo "test: the tests in C, Python and Rust passed in $(($(date +%s) - began)) s: $tests_said"
-fi
-
+tools/left-by-ci.sh --begin
+(rt ci 2>&1 | tee "$proofs_said" | but_the_last) &
+under_way=$!
 status=0
-wait "$proofs" || status=$?
-tail -n 1 "$proofs_said"
-exit "$status"
+wait "$under_way" || status=$?
+under_way=''
+[ "$status" = 0 ] || end "$status" 0
+if ! grep -q '^rt: ok' "$proofs_said" || grep -qE '^rt: ok.*, [1-9][0-9]* bad' "$proofs_said"; then
+    echo "test: rt ci says of bad edits: see BAD EDIT in $proofs_said"
+    end 1 1
+fi
+tools/left-by-ci.sh --note
+
+began=$SECONDS
+echo "test: all is proved; the tests begin"
+make --no-print-directory tests >"$tests_said" 2>&1 &
+under_way=$!
+while kill -0 "$under_way" 2>/dev/null; do
+    sleep 1
+    [ $(((SECONDS - began) % 30)) -ne 29 ] || echo "  .. the tests: $(tail -n 1 "$tests_said" | cut -c1-100) ($((SECONDS - began)) s)"
+done
+wait "$under_way" || status=$?
+under_way=''
+if [ "$status" != 0 ]; then
+    cat "$tests_said"
+    echo "test: the tests FAILED: what they said stands above and in $tests_said"
+    end "$status" 1
+fi
+echo "test: the tests in C, Python and Rust passed in $((SECONDS - began)) s: $tests_said"
+end 0 0

@@ -16,7 +16,7 @@ fail() { printf 'web-module: %s\n' "$*" >&2; exit 1; }
 [ $# -ge 2 ] || fail "usage: web-module.sh TARGET CRATE..."
 cd "$(dirname "$0")/.."
 . tools/controller-options.sh
-tools=$(tools/kit.sh)/on/$(uname -m)/toolchain/bin
+tools=$(tools/kit.sh)/toolchain/bin
 target=$1
 shift
 

@@ -9,6 +9,7 @@ compiler=$2
 fail() { printf 'install.sh: %s\n' "$*" >&2; exit 1; }
 
 rm -rf "$folder"
+trap 'find "$folder" -type l -delete' EXIT # `rt ci` refuses links
 mkdir -p "$folder/to/usr/lib"
 echo 'of somebody else' >"$folder/to/usr/lib/libother.a"
 installed=$folder/to/usr

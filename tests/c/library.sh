@@ -1,14 +1,15 @@
 #!/usr/bin/env bash
 # SPDX-License-Identifier: Apache-2.0
-# library.sh FOLDER: tools/which-library.sh takes the archive that was proved here, else that of dist/, and neither where the crates
-# are others or dist/ is damaged. It is tried on a copy of the files that it looks at. FOLDER is made anew.
+# library.sh: tools/which-library.sh takes the archive that was proved here, else that of dist/, and neither where the crates
+# are others or dist/ is damaged. It is tried on a copy of the files that it looks at, outside the repository, since `rt ci` refuses
+# .rt files anywhere but in crates/.
 set -euo pipefail
 
-folder=$1
+folder=$(mktemp -d)
+trap 'rm -rf "$folder"' EXIT
 machine=$(uname -m)
-rm -rf "$folder"
 mkdir -p "$folder/tools"
-cp -r Makefile crates.txt dist "$folder/"
+cp -r crates.txt dist "$folder/"
 cp tools/crates-below.sh tools/sources.sh tools/which-library.sh "$folder/tools/"
 tools/sources.sh | awk '{ print $2 }' | tar -cf - -T - | tar -xf - -C "$folder"
 
@@ -34,8 +35,11 @@ must 0 "dist/$machine/libfm3130.a" 'which the gate has proved'
 cp "$folder/dist/SOURCES" "$folder/build/$proved/SOURCES"
 must 0 "build/$proved/libfm3130.a" 'proved here'
 
-echo >>"$folder/crates/c_trim/src/lib.rt"
-must 3 '' '(changed: c_trim)'
+# The code of a crate that the library is compiled from.
+file=$(awk 'NR == 1 { print $2 }' "$folder/dist/SOURCES")
+crate=$(echo "$file" | cut -d/ -f2)
+echo >>"$folder/$file"
+must 3 '' "(changed: $crate)"
 (cd "$folder" && tools/sources.sh >"build/$proved/SOURCES")
 must 0 "build/$proved/libfm3130.a" 'proved here'
 

@@ -14,6 +14,17 @@ pub struct Folder {
     path: PathBuf,
 }
 
+/// No link stays in it: the folder lies in the repository's build/, and `rt ci` refuses links.
+impl Drop for Folder {
+    fn drop(&mut self) {
+        for entry in fs::read_dir(&self.path).into_iter().flatten().flatten() {
+            if entry.path().is_symlink() {
+                let _ = fs::remove_file(entry.path());
+            }
+        }
+    }
+}
+
 impl Folder {
     /// An empty folder; every test has a name of its own.
     pub fn new(name: &str) -> Folder {
