@@ -166,10 +166,10 @@ edits: library ## docs/EDITS.md, from what the prover last said of each edit (ma
 
 # More than an hour on two cores, so `make test` tries those of crates/*/must-fail alone.
 all-edits: ## try every edit, the further ones of edits/ too
-	@$(PATIENT) 'edits are tried' tools/all-edits.sh
+	@tools/all-edits.sh
 
 # Minutes for most: a twin proves all that stands on the rule it changes, up to its law.
-twins: check ## try the twins: devices with a rule wrong in definition and code alike, each refused by a law alone
+twins: ## try the twins: devices with a rule wrong in definition and code alike, each refused by a law alone
 	@$(PATIENT) 'twins are tried' tools/twins.py
 
 # Those that prove the fewest crates.

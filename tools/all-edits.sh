@@ -3,43 +3,34 @@
 # all-edits.sh [CRATE...]: tries every edit, those that the gate tries and the further ones of edits/; or those of the
 # crates named alone.
 #
-# An edit proves its whole crate anew, so all of them take more than an hour on two cores. They are tried on a copy of the
-# crates outside the repository, over what is proved already; the logs come back to target/must-fail, where `make edits`
-# reads them.
+# An edit proves anew what it touches, and all of them take hours of a processor. They are tried by `rt must-fail` on a copy of the
+# crates outside the repository, over what is proved here already (`make check`); what has not changed since it was last tried is not
+# tried again. What was said comes to build/log/edits.txt, where `make edits` reads it. An edit that cannot be applied or read is an
+# error here.
 set -eu
 
 fail() { printf 'all-edits: %s\n' "$*" >&2; exit 1; }
 
 cd "$(dirname "$0")/.."
-top=$PWD
 for crate in "$@"; do
     [ -d "crates/$crate" ] || fail "there is no crate $crate"
 done
+said=$PWD/build/log/edits.txt
+proving=$PWD/tools/proving.sh
 work=$(mktemp -d)
 trap 'rm -rf "$work"' EXIT
 trap 'exit 1' HUP INT TERM
 
-cp -Rp crates crates.txt "$work/"
-[ ! -d target ] || cp -Rp target "$work/"
-rm -rf "$work/target/must-fail"
+tar -cf - --exclude='crates/*/out' crates crates.txt | tar -xf - -C "$work"
 for folder in edits/*/; do
     crate=$(basename "$folder")
+    [ -d "crates/$crate" ] || continue # PORTING-LEFT.md names it
     mkdir -p "$work/crates/$crate/must-fail"
     cp -p "$folder"*.edit "$work/crates/$crate/must-fail/"
 done
 
-# `rt must-fail CRATE` tries the edits of all that the crate stands on too: here only those of the crates named are left.
-if [ $# -gt 0 ]; then
-    for folder in "$work"/crates/*/; do
-        case " $* " in
-        *" $(basename "$folder") "*) ;;
-        *) rm -rf "${folder}must-fail" ;;
-        esac
-    done
-fi
-
 status=0
-(cd "$work" && rt must-fail "$@") || status=$?
-mkdir -p "$top/target"
-[ ! -d "$work/target/must-fail" ] || cp -R "$work/target/must-fail" "$top/target/"
+(cd "$work" && "$proving" "$said" rt must-fail "$@") || status=$?
+grep -cE '^rt: must-fail .*: refused, as it must be' "$said" | sed 's/$/ edits were refused/'
+! grep -E '^rt: must-fail .*: (NOT REFUSED|NOT TRIED|BAD EDIT)' "$said" || status=1
 exit "$status"

@@ -13,8 +13,9 @@ twin is a text: lines of `#` first, among them
 a line `# Not tried yet.` where no prover has seen it with the code as it stands: it is passed over, and said to be, unless it is
 named; and then places, each `file:`, `old:` and `new:`, an `old` that stands there once; in both \n is the end of a line.
 
-They are tried on a copy of the crates outside the repository, over what is proved already of the crates that they stand on; what
-the prover said of each is in build/log/twins/NAME.txt.
+Each is tried by `rt ci` on a copy of the crates to be proved and of those below them, outside the repository and without edits.
+What `rt ci` passed before on this machine is not proved again. What it said is in build/log/twins/NAME.txt. A twin whose crates
+PORTING-LEFT.md names is passed over.
 """
 import os
 import re
@@ -48,6 +49,10 @@ class Twin:
         self.cited = [f"`{self.law}/proofs/{file}.{law}`" for laws, file in groups for law in re.findall(r"`([\w-]+)`", laws)]
         self.is_tried = "\n# Not tried yet.\n" not in text
 
+    def changed(self):
+        """The crates that it changes."""
+        return sorted({file.split("/")[1] for file, _, _ in self.places})
+
     def apply(self, folder):
         """Changes the crates of a copy; says what could not be changed."""
         for file, old, new in self.places:
@@ -61,12 +66,12 @@ class Twin:
 
     def fault(self, said):
         """What is wrong with what the prover said; nothing if the law, and it alone, refused the twin."""
-        unproved = re.findall(r"^rt: (\w+) NOT PROVED", said, re.M)
+        unproved = re.findall(r"^rt: (\w+) NOT PROVED$", said, re.M)
         if not unproved:
-            return "it was proved: no law refuses it"
+            return "it was proved: no law refuses it" if re.search(r"^\d+ passed, 0 failed$", said, re.M) else "rt ci gave no verdict"
         if unproved[0] != self.law:
             return f"{unproved[0]} refused it, before {self.law}"
-        if re.search(r"/Proof\.antt:\d+:\d+: error", said):
+        if re.search(r"/(Proof|Answers|Invariants)\.antt:\d+:\d+: error|^fn \S+: (not proved|no proof)|: it is not proved that ", said, re.M):
             return f"its code does not meet its definition in {self.law}"
         spared = [law for law in self.laws if f"error: `{law}`" not in said]
         if spared:
@@ -74,18 +79,21 @@ class Twin:
         return None
 
 
+def lines_of_crates():
+    """The lines of crates.txt, by the crate that each is of."""
+    lines = open(os.path.join(TOP, "crates.txt"), encoding="utf-8").read().splitlines()
+    return {line.split(":")[0].split()[0]: line for line in lines if ":" in line and not line.startswith("#")}
+
+
 def copy(twin, folder):
-    """Copies the crates, and what is proved of those that the twin stands on."""
-    shutil.copytree(os.path.join(TOP, "crates"), os.path.join(folder, "crates"), symlinks=True)
-    shutil.copy(os.path.join(TOP, "crates.txt"), folder)
-    os.makedirs(os.path.join(folder, "target/stamp"))
+    """Copies the crates that are to be proved and those below them, without edits."""
     below = subprocess.run([os.path.join(TOP, "tools/crates-below.sh"), *twin.crates], text=True, capture_output=True, check=True)
+    lines = lines_of_crates()
+    with open(os.path.join(folder, "crates.txt"), "w", encoding="utf-8") as out:
+        out.write("".join(lines[crate] + "\n" for crate in below.stdout.split()))
     for crate in below.stdout.split():
-        stamp = os.path.join("target/stamp", crate)
-        if os.path.exists(os.path.join(TOP, stamp)):
-            rlib = os.path.join("target/rlib", crate + ".rlib")
-            shutil.copytree(os.path.join(TOP, rlib), os.path.join(folder, rlib), symlinks=True)
-            shutil.copy(os.path.join(TOP, stamp), os.path.join(folder, stamp))
+        left_out = shutil.ignore_patterns("out", "must-fail")
+        shutil.copytree(os.path.join(TOP, "crates", crate), os.path.join(folder, "crates", crate), ignore=left_out)
 
 
 def log_of(name):
@@ -99,8 +107,10 @@ def tried(twin):
         fault = twin.apply(folder)
         if fault:
             return fault
-        ran = subprocess.run(["rt", "check", *twin.crates], cwd=folder, text=True, capture_output=True)
-        said = ran.stdout + ran.stderr
+        for crate in twin.changed():
+            subprocess.run(["rt", "fmt"], cwd=os.path.join(folder, "crates", crate), text=True, capture_output=True, check=True)
+        ran = subprocess.run(["rt", "ci"], cwd=folder, text=True, stdout=subprocess.PIPE, stderr=subprocess.STDOUT)
+        said = ran.stdout
         with open(log_of(twin.name), "w", encoding="utf-8") as out:
             out.write(said)
         return twin.fault(said)
@@ -141,6 +151,11 @@ def main(names):
         return write_page(twins)
     untried = [] if names else [twin.name for twin in twins if not twin.is_tried]
     names = names or [twin.name for twin in twins if twin.is_tried]
+    left = []
+    if os.path.exists(os.path.join(TOP, "PORTING-LEFT.md")):
+        here = lines_of_crates()
+        left = [twin.name for twin in twins if twin.name in names and not {*twin.crates, *twin.changed()} <= here.keys()]
+        names = [name for name in names if name not in left]
     failed = 0
     os.makedirs(os.path.dirname(log_of("")), exist_ok=True)
     for number, name in enumerate(names, 1):
@@ -155,6 +170,8 @@ def main(names):
             out.write(f"twin: {verdict}\n")
     if untried:
         print(f"twins: passed over, not tried yet: {', '.join(untried)}")
+    if left:
+        print(f"twins: passed over, as PORTING-LEFT.md names their crates: {', '.join(left)}")
     print(f"twins: {len(names) - failed} passed, {failed} failed")
     return 1 if failed else 0
 
