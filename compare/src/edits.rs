@@ -1,8 +1,9 @@
 // SPDX-License-Identifier: Apache-2.0
 //! The edits that the prover must refuse, and docs/EDITS.md, which lists each with what fails first.
 //!
-//! `rt must-fail` and `rt ci` leave a log of each edit that they try; the table is made from those logs, and a line
-//! stays as it is while there is no log for it that is newer than the edit.
+//! `rt must-fail` and `rt ci` say in a line what each edit came to, with the first 160 letters of what failed first. `make test` and
+//! `make all-edits` keep what they said; the table is made from that, and a point stays as it is while nothing newer than the edit
+//! was said of it.
 
 use std::fs;
 use std::path::{Path, PathBuf};
@@ -26,7 +27,7 @@ pub struct Row {
     pub fact: String,
 }
 
-/// What a log says of the first thing that failed. `clear` is false where it may be no fact but a name, or the shape
+/// What is said of the first thing that failed. `clear` is false where it may be no fact but a name, or the shape
 /// of the code, that does not fit the proof: such an edit shows nothing.
 #[derive(PartialEq, Debug)]
 pub struct Refusal {
@@ -53,6 +54,9 @@ not `b`, these are two terms that had to be one, shortened; one that only the pr
 
 "#;
 
+/// What the gate last said, and what `make all-edits` did.
+const LOGS: [&str; 2] = ["build/log/ci.txt", "build/log/edits.txt"];
+
 /// What begins the line of a point that says what failed.
 const FAILS: &str = "  - fails: ";
 
@@ -68,15 +72,24 @@ impl Edit {
         }
     }
 
-    /// Its log, where it was tried after it was last written.
-    fn log(&self, top: &Path) -> Option<String> {
-        let log = top
-            .join("target/must-fail")
-            .join(&self.owner)
-            .join(&self.name)
-            .join(".log");
-        let time = |path: &PathBuf| fs::metadata(path).and_then(|data| data.modified()).ok();
-        (time(&log)? >= time(&self.file)?).then(|| fs::read_to_string(&log).ok())?
+    /// What was last said of it, where that is newer than the edit.
+    fn said(&self, top: &Path) -> Option<String> {
+        let time = |path: &Path| fs::metadata(path).and_then(|data| data.modified()).ok();
+        let mut logs: Vec<PathBuf> = LOGS.iter().map(|log| top.join(log)).collect();
+        logs.retain(|log| time(log) >= time(&self.file));
+        logs.sort_by_key(|log| time(log));
+        let start = format!(
+            "rt: must-fail {}/{}.edit: refused, as it must be",
+            self.owner, self.name
+        );
+        logs.iter().rev().find_map(|log| {
+            let text = fs::read_to_string(log).ok()?;
+            let said = text
+                .lines()
+                .rev()
+                .find_map(|line| line.strip_prefix(&start))?;
+            Some(said.to_string())
+        })
     }
 }
 
@@ -154,7 +167,7 @@ pub fn page(top: &Path, old: &str) -> (String, Vec<String>) {
     let mut faults = vec![];
     for edit in all(top) {
         let path = edit.path();
-        let refused = edit.log(top).and_then(|log| refusal(&edit, &log));
+        let refused = edit.said(top).and_then(|said| refusal(&edit, &said));
         let row = match refused {
             Some(refused) => {
                 if !refused.clear {
@@ -192,65 +205,103 @@ pub fn page(top: &Path, old: &str) -> (String, Vec<String>) {
     (text, faults)
 }
 
-/// What a log says of the first thing that failed.
-pub fn refusal(edit: &Edit, log: &str) -> Option<Refusal> {
-    let mut lines = log.lines();
-    let Some(first) = lines.find(|line| line.contains(": error: ")) else {
-        return unproved(edit, log);
+/// What a line of rt says of the first thing that failed, behind "refused, as it must be".
+pub fn refusal(edit: &Edit, line: &str) -> Option<Refusal> {
+    let line = line.trim_start_matches(": ");
+    // rt says in brackets where an edit shows less: it takes a name away, or a limit was met
+    let (is_fact, line) = match line.strip_prefix(" (only ") {
+        Some(rest) => (false, rest.split_once("): ")?.1),
+        None => (true, line),
     };
-    let (at, said) = first.split_once(": error: ")?;
-    let rest: Vec<&str> = lines
-        .take_while(|line| line.starts_with("  "))
-        .map(str::trim)
-        .collect();
-    let said = format!("{said} {}", rest.join(" "));
-    let (name, said) = said.strip_prefix('`')?.split_once("`: ")?;
-    if said.contains("was not admitted") {
-        return unproved(edit, log);
-    }
+    let line = line.strip_prefix("note: ").unwrap_or(line);
+    let (at, said) = line.split_once(": ")?;
+    let file = at.strip_prefix("./").unwrap_or(at);
+    let (name, said) = match said.strip_prefix("error: ") {
+        Some(error) => error.strip_prefix('`')?.split_once("`: ")?,
+        None => (between(said, "(`", "`)").unwrap_or(""), said),
+    };
     let (fact, clear) = fact_of(said);
     Some(Refusal {
-        place: place_of(edit, at, name),
+        place: place_of(edit, file, name),
         fact,
-        clear,
+        clear: clear && is_fact,
     })
 }
 
-/// Where a function has no proof of its own, and none is found for it.
-fn unproved(edit: &Edit, log: &str) -> Option<Refusal> {
-    let prefix = format!("fn {}::", edit.owner);
-    let (name, said) = log
-        .lines()
-        .filter_map(|line| line.strip_prefix(&prefix))
-        .find_map(|line| line.split_once(": no proof: "))?;
-    Some(Refusal {
-        place: format!("what `{name}` ensures"),
-        fact: "no proof is found".to_string(),
-        clear: said.contains("`search` does not close `returns"),
-    })
+/// What stands between two marks, the first such place.
+fn between<'a>(text: &'a str, before: &str, after: &str) -> Option<&'a str> {
+    Some(text.split_once(before)?.1.split_once(after)?.0)
 }
 
-/// A place in a file of the edited crate, and the name that is declared there, in words.
+/// A place `FILE:LINE:COLUMN` in the edited crate, and the name that is declared or asked for there, in words.
 fn place_of(edit: &Edit, at: &str, name: &str) -> String {
-    let folder = format!("/must-fail/{}/{}/", edit.owner, edit.name);
-    let file = at.split_once(&folder).map_or(at, |(_, file)| file);
-    let file = file.split(':').next().unwrap();
-    let file = file.strip_prefix("proofs/").unwrap_or(file);
-    if let Some(function) = file.strip_suffix("/Proof.antt") {
-        let function = function.replace('/', "::");
-        return match name.split_once("-requires") {
-            Some((callee, _)) => format!("what `{function}` asks before `{callee}`"),
-            None if name.starts_with("returns") => format!("what `{function}` ensures"),
-            None => format!("`{name}` in the proof of `{function}`"),
-        };
+    let mut parts = at.split(':');
+    let file = parts.next().unwrap();
+    let line = parts.next().and_then(|line| line.parse().ok()).unwrap_or(1);
+    if file.starts_with("src/") {
+        return place_in_function(&function_at(edit, file, line), name);
     }
-    format!("law `{}.{name}`", file.trim_end_matches(".antt"))
+    let Some(file) = file.strip_prefix("proofs/") else {
+        return format!("`{name}` in {file}");
+    };
+    let of_function = ["Proof", "Answers", "Invariants"]
+        .iter()
+        .find_map(|kind| file.strip_suffix(&format!("/{kind}.antt")));
+    match of_function {
+        Some(function) => place_in_function(&function.replace('/', "::"), name),
+        None => format!("law `{}.{name}`", file.trim_end_matches(".antt")),
+    }
 }
 
-/// The fact that fails, in a few words, and whether it is one.
+/// What of a function's proof fails, by the name of what is asked for.
+fn place_in_function(function: &str, name: &str) -> String {
+    if let Some((callee, _)) = name.split_once("-requires") {
+        let callee = callee.split('-').next().unwrap();
+        return format!("what `{function}` asks before `{callee}`");
+    }
+    match name {
+        _ if name.starts_with("returns") => format!("what `{function}` ensures"),
+        "" => format!("the proof of `{function}`"),
+        _ => format!("`{name}` in the proof of `{function}`"),
+    }
+}
+
+/// The function of a crate's file that a line is in or begins, or the file's name where there is none. An edit keeps the lines.
+fn function_at(edit: &Edit, file: &str, line: usize) -> String {
+    let path = top().join("crates").join(&edit.owner).join(file);
+    let text = fs::read_to_string(path).unwrap_or_default();
+    let lines: Vec<&str> = text.lines().take(line).collect();
+    let name = |line: &&str| {
+        Some(
+            line.split_once("fn ")?
+                .1
+                .split(['(', '<'])
+                .next()?
+                .to_string(),
+        )
+    };
+    let named = lines
+        .iter()
+        .rev()
+        .filter(|line| !line.trim_start().starts_with("//"));
+    named
+        .filter_map(name)
+        .next()
+        .unwrap_or_else(|| file.to_string())
+}
+
+/// The fact that fails, in a few words, and whether it is one. The end of a long message is cut off.
 fn fact_of(said: &str) -> (String, bool) {
-    if said.contains("Need-") || said.contains("has no field") {
+    if said.contains("Need-") || said.contains("has no field") || said.contains("was not admitted")
+    {
         return (short(said), false);
+    }
+    if let Some(rest) = said.strip_prefix("it is not proved that ") {
+        let what = rest.split(" (`").next().unwrap().split(';').next().unwrap();
+        return (
+            format!("no proof is found that {}", plain_words(what)),
+            true,
+        );
     }
     if let Some(pair) = differing(said).or_else(|| left_over(said)) {
         return (unequal(&pair), true);
@@ -263,14 +314,14 @@ fn fact_of(said: &str) -> (String, bool) {
             true,
         );
     }
-    if two_equations(said) {
+    if two_equations(said) || SIDES.iter().any(|words| said.contains(words)) {
         return ("two sides differ".to_string(), true);
     }
     if said.contains("no proof of `") || said.contains("`omega`") {
         return ("no proof is found".to_string(), true);
     }
-    if let Some([asked, given]) = mismatch(said) {
-        return match [readable(&asked), readable(&given)] {
+    match mismatch(said) {
+        Some([asked, given]) => match [readable(&asked), readable(&given)] {
             [Some(asked), Some(given)] => {
                 (format!("`{asked}` is asked for, `{given}` given"), true)
             }
@@ -278,9 +329,28 @@ fn fact_of(said: &str) -> (String, bool) {
                 "another statement is given than is asked for".to_string(),
                 false,
             ),
-        };
+        },
+        None if said.contains("expected type `") => (
+            "another statement is given than is asked for".to_string(),
+            true,
+        ),
+        None => (short(said), false),
     }
-    (short(said), false)
+}
+
+/// Words of messages that say that two sides differ, of which the terms may be cut off.
+const SIDES: [&str; 3] = [
+    "computed as far as they go, the two ",
+    "as printed, the two ",
+    "give a proof of that as the last argument, `rw L t`",
+];
+
+/// Words of the prover's without its marks.
+fn plain_words(words: &str) -> String {
+    words
+        .trim()
+        .trim_end_matches(" holds when it returns")
+        .to_string()
 }
 
 /// What was asked for and what was given, where both are statements and the prover prints no two terms.
@@ -425,42 +495,49 @@ mod tests {
         }
     }
 
-    /// The refusal of an edit whose log begins with an error.
+    /// The refusal of an edit of which rt says this, at a place in the crate's proofs.
     fn told(place: &str, said: &str) -> Refusal {
-        let log = format!(
-            "note: before\n/a/target/must-fail/wire/x/proofs/{place}:1:2: error: {said}\nfn wire::f: not proved\n"
-        );
-        refusal(&edit(), &log).unwrap()
+        refusal(&edit(), &format!(": ./proofs/{place}:1:2: error: {said}")).unwrap()
     }
 
     #[test]
     fn two_terms_that_differ_are_told() {
-        let said = "`returns`: as printed, the two types differ only where one has `a.B` (expected)\n  \
-                    and the other has `c` (found)\n  computed as far as they go, the two types differ only where one \
-                    has `lib.Nat.x .before .y` (expected) and the other has `128` (found)";
-        let refused = told("State/step/Proof.antt", said);
+        let said = "`returns`: as printed, the two types differ only where one has `a.B` (expected) and the other has `c` (found)";
+        let refused = told("State/step/Answers.antt", said);
         assert_eq!(refused.place, "what `State::step` ensures");
-        assert_eq!(refused.fact, "`x .y` is not `128`");
+        assert_eq!(refused.fact, "`B` is not `c`");
         assert!(refused.clear);
+        let cut = told(
+            "State/step/Answers.antt",
+            "`returns`: as printed, the two types differ only where one has `a.B",
+        );
+        assert_eq!((cut.fact.as_str(), cut.clear), ("two sides differ", true));
     }
 
     #[test]
     fn an_equation_that_is_left_is_told() {
-        let said = "`l`: give a proof of that\n  `rw` has no last argument, so what it leaves must be a path whose \
-                    two ends are equal, and `Path (A.T b) (m.cond false (f x) (g y)) z`\n  is none";
+        let said = "`l`: give a proof of that `rw` has no last argument, so what it leaves must be a path whose \
+                    two ends are equal, and `Path (A.T b) (m.cond false (f x) (g y)) z` is none";
         let refused = told("Keeps.antt", said);
         assert_eq!(refused.place, "law `Keeps.l`");
         assert_eq!(refused.fact, "`g y` is not `z`");
+        let cut = told(
+            "Keeps.antt",
+            "`l`: give a proof of that as the last argument, `rw L t` (`rw L ?` shows it",
+        );
+        assert_eq!((cut.fact.as_str(), cut.clear), ("two sides differ", true));
     }
 
     #[test]
     fn what_a_callee_requires_is_told() {
-        let refused = told(
-            "run/go/Proof.antt",
-            "`push-requires-2`: `search`: no proof of `p`",
-        );
-        assert_eq!(refused.place, "what `run::go` asks before `push`");
-        assert!(refused.clear);
+        for name in ["push-requires-2", "push-found-requires"] {
+            let refused = told(
+                "run/go/Answers.antt",
+                &format!("`{name}`: `search`: no proof of `p`"),
+            );
+            assert_eq!(refused.place, "what `run::go` asks before `push`");
+            assert!(refused.clear);
+        }
     }
 
     #[test]
@@ -470,7 +547,17 @@ mod tests {
             "`returns`: record `After-push` has no field `join`",
             "`returns`: something else",
         ] {
-            assert!(!told("f/Proof.antt", said).clear, "{said}");
+            assert!(!told("f/Answers.antt", said).clear, "{said}");
+        }
+    }
+
+    #[test]
+    fn what_rt_says_less_of_is_not_taken_for_a_fact() {
+        for why in ["because a proof file names what the edit took away, so this says little of the contract: change a value and keep \
+                     the names", "by a limit of the prover, which gave no verdict"] {
+            let line = format!(" (only {why}): proofs/f/Answers.antt:1:2: error: `returns`: `search`: no proof of `p`");
+            let refused = refusal(&edit(), &line).unwrap();
+            assert!(!refused.clear && refused.place == "what `f` ensures", "{why}");
         }
     }
 
@@ -488,10 +575,33 @@ mod tests {
 
     #[test]
     fn a_function_without_a_proof_is_told() {
-        let log =
-            "fn wire::a::f: no proof: expected `f-spec` in F; `search` does not close `returns`\n";
-        let refused = refusal(&edit(), log).unwrap();
-        assert_eq!(refused.place, "what `a::f` ensures");
+        let line = ": note: src/gone.rt:9:1: it is not proved that what the function ensures holds when it returns (`returns`); the f";
+        let refused = refusal(&edit(), line).unwrap();
+        assert_eq!(refused.place, "what `src/gone.rt` ensures");
+        assert_eq!(
+            refused.fact,
+            "no proof is found that what the function ensures"
+        );
         assert!(refused.clear);
+    }
+
+    #[test]
+    fn the_function_that_a_line_of_code_is_in_is_told() {
+        let text = fs::read_to_string(top().join("crates/bits/src/lib.rt")).unwrap();
+        let begun = text
+            .lines()
+            .position(|line| line.contains("fn has("))
+            .unwrap();
+        assert_eq!(
+            function_at(
+                &Edit {
+                    owner: "bits".to_string(),
+                    ..edit()
+                },
+                "src/lib.rt",
+                begun + 2
+            ),
+            "has"
+        );
     }
 }
