@@ -5,6 +5,7 @@
 //! `make all-edits` keep what they said; the table is made from that, and a point stays as it is while nothing newer than the edit
 //! was said of it.
 
+use crate::crates;
 use std::fs;
 use std::path::{Path, PathBuf};
 
@@ -103,11 +104,9 @@ pub fn top() -> PathBuf {
 
 /// All edits, crate by crate in the order of crates.txt; of each crate the gate's first.
 pub fn all(top: &Path) -> Vec<Edit> {
-    let list = fs::read_to_string(top.join("crates.txt")).unwrap();
-    list.lines()
-        .filter(|line| !line.starts_with('#'))
-        .filter_map(|line| line.split_once(':'))
-        .flat_map(|(owner, _)| edits_of(top, owner.trim()))
+    crates::all(top)
+        .iter()
+        .flat_map(|each| edits_of(top, &each.name))
         .collect()
 }
 

@@ -14,7 +14,7 @@
 //! * [`program_run`]: writes what such a program is run on, and what it has to print.
 //! * [`almanac`]: what the proved calendar has to print.
 //! * [`layers`]: which files of a Rust package use which. [`rust_words`]: the words of a program in Rust.
-//! * [`edits`]: what the prover said of each edit that it must refuse.
+//! * [`edits`]: what the prover said of each edit that it must refuse. [`crates`]: the crates of crates.txt.
 //! * [`public`]: the public functions of the crates. [`reached`]: what is called when a function is.
 //! * [`prose`]: what people read in the files of the tree. [`points`]: a page of points.
 //! * [`quotations`]: quotations, and the papers whose words they are.
@@ -22,6 +22,7 @@
 pub mod almanac;
 pub mod archive;
 pub mod captures;
+pub mod crates;
 pub mod edits;
 pub mod family;
 pub mod image;

@@ -71,16 +71,59 @@ fn head_at(lines: &[&str], from: usize) -> Option<String> {
 
 /// The function whose head this is, on one line.
 pub fn public_of(owner: &str, file: &str, head: &str) -> Public {
-    let mut parts = head.split(" ensures { ");
-    let before = parts.next().unwrap();
-    let signature = before.split(" requires { ").next().unwrap();
+    let clauses = clauses_of(head);
+    let signature = match clauses.first() {
+        Some(first) => &head[..first.at],
+        None => head,
+    };
     let (_, named) = signature.split_once("fn ").unwrap();
     let name = named.split(['(', '<']).next().unwrap();
+    let ensures = clauses.iter().filter(|clause| !clause.asks);
     Public {
         owner: owner.to_string(),
         name: format!("{owner}/src/{file}.{name}"),
         signature: signature.to_string(),
-        asks: head.contains(" requires {"),
-        ensures: parts.map(str::to_string).collect(),
+        asks: clauses.iter().any(|clause| clause.asks),
+        ensures: ensures.map(|clause| clause.statement.to_string()).collect(),
     }
+}
+
+/// A clause of a head on one line: where it begins, whether it is a `requires`, and its statement.
+struct Clause<'a> {
+    at: usize,
+    asks: bool,
+    statement: &'a str,
+}
+
+/// The clauses of a head: `requires` or `ensures`, maybe a name, and a statement in braces, which may have braces within.
+fn clauses_of(head: &str) -> Vec<Clause<'_>> {
+    let mut clauses: Vec<Clause> = vec![];
+    let mut depth = 0;
+    let mut start = 0;
+    let mut before = "";
+    for (end, letter) in head.char_indices() {
+        match letter {
+            '{' => {
+                if depth == 0 {
+                    before = &head[..end];
+                    start = end + 1;
+                }
+                depth += 1;
+            }
+            '}' => {
+                depth -= 1;
+                let begun =
+                    [" requires ", " ensures "].map(|word| Some((before.rfind(word)?, word)));
+                if let (0, Some((at, word))) = (depth, begun.into_iter().flatten().max()) {
+                    clauses.push(Clause {
+                        at,
+                        asks: word == " requires ",
+                        statement: head[start..end].trim(),
+                    });
+                }
+            }
+            _ => {}
+        }
+    }
+    clauses
 }

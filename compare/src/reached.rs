@@ -2,10 +2,10 @@
 //! Which functions of the crates are called when a function is, by the words of the code. A call of a method, or through the name of a
 //! type, is taken for one of every function of that name in the crate and those below it; so a little more is found than is called.
 
+use crate::crates;
 use crate::edits::top;
 use crate::public::{self, Code};
 use std::collections::{BTreeMap, BTreeSet};
-use std::fs;
 
 /// A function: where it is, as the documents write it, and what its body calls.
 struct Function {
@@ -110,15 +110,11 @@ fn functions_of(code: &Code) -> Vec<Function> {
 
 /// Each crate with those that it depends on, and itself.
 fn below() -> BTreeMap<String, BTreeSet<String>> {
-    let list = fs::read_to_string(top().join("crates.txt")).unwrap();
-    let lines = list.lines().filter(|line| !line.starts_with('#'));
-    let pairs = lines.filter_map(|line| line.split_once(':'));
-    pairs
-        .map(|(owner, below)| {
-            let all = below.split_whitespace().chain([owner]);
-            (owner.to_string(), all.map(str::to_string).collect())
-        })
-        .collect()
+    let with_itself = |each: crates::Crate| {
+        let all = each.below.into_iter().chain([each.name.clone()]);
+        (each.name, all.collect())
+    };
+    crates::all(&top()).into_iter().map(with_itself).collect()
 }
 
 /// The functions that are called, directly or not, when those of these names are; their places as the documents write them.

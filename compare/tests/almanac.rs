@@ -20,7 +20,7 @@ fn start_of(case: &str) -> String {
         .split_whitespace()
         .flat_map(|word| match word {
             "on" => vec![],
-            "lastOf" => vec!["23", "59", "59"],
+            "last_of" => vec!["23", "59", "59"],
             byte => vec![byte.trim_start_matches("0x")],
         })
         .collect();

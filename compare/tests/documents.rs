@@ -8,6 +8,7 @@
 //! * Every decision that is named is written down, and no row of a table is too long to be read.
 //! * What stands between quotation marks is in the papers (D219).
 
+use compare::crates;
 use compare::edits::{self, top};
 use compare::points;
 use compare::prose::{self, entries_of, Paragraph};
@@ -358,23 +359,14 @@ fn every_enum_is_said_to_be_an_answer_or_none() {
     assert!(enums > 15, "{enums} enums are few");
 }
 
-/// The names in crates.txt, each in front of the crates that it stands on.
-fn crates() -> Vec<String> {
-    let list = text_of(&top().join("crates.txt")).unwrap();
-    let lines = list.lines().filter(|line| !line.starts_with('#'));
-    lines
-        .filter_map(|line| Some(line.split_once(':')?.0.trim().to_string()))
-        .collect()
-}
-
 #[test]
 fn every_crate_stands_in_the_table_of_crates() {
     let page = text_of(&top().join("docs/READING.md")).unwrap();
     let (_, part) = page.split_once("\n## The crates\n").unwrap();
     let rows: Vec<&str> = part.lines().filter(|line| line.starts_with("| ")).collect();
-    let crates = crates();
+    let crates = crates::all(&top());
     assert!(crates.len() > 60, "{} crates are few", crates.len());
-    for name in crates {
+    for name in crates.iter().map(|each| &each.name) {
         let is_named = rows.iter().any(|row| row.contains(&format!("`{name}`")));
         assert!(is_named, "docs/READING.md: The crates: {name} is missing");
     }

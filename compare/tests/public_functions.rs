@@ -6,6 +6,7 @@
 //! * Those of another form are in a list of their own.
 //! * The crates that rest on axioms are the programs that use the C library.
 
+use compare::crates;
 use compare::edits::top;
 use compare::points;
 use compare::prose::entries_of;
@@ -32,11 +33,11 @@ fn text_of(path: &Path) -> String {
 
 // ---- contracts
 
-/// The definitions of `ghost use Rattle·CRATE.specs.FILE.{NAME, ..};`, where the crate's own has `·specs` behind its name.
+/// The definitions of `ghost use Rattle.CRATE.specs.FILE.{NAME, ..};`.
 fn uses_in(text: &str) -> Uses {
     let mut uses = Uses::new();
     for line in text.lines() {
-        let Some(path) = line.trim().strip_prefix("ghost use Rattle·") else {
+        let Some(path) = line.trim().strip_prefix("ghost use Rattle.") else {
             continue;
         };
         let Some((place, names)) = path.split_once(".{") else {
@@ -45,7 +46,6 @@ fn uses_in(text: &str) -> Uses {
         let Some((owner, file)) = place.split_once(".specs.") else {
             continue;
         };
-        let owner = owner.trim_end_matches("·specs");
         let file = file.replace('.', "/");
         for name in names.trim_end_matches("};").split(", ") {
             uses.insert(name.to_string(), (owner.to_string(), file.clone()));
@@ -115,7 +115,7 @@ fn general<'a>(specs: &'a str, name: &str) -> Option<(&'a str, &'a str, &'a str)
     let end = format!(" as {alias}");
     let place = specs
         .lines()
-        .find_map(|line| line.strip_prefix("use Rattle·")?.strip_suffix(&end))?;
+        .find_map(|line| line.strip_prefix("use Rattle.")?.strip_suffix(&end))?;
     let (owner, file) = place.split_once(".specs.")?;
     Some((owner, file, words.split(' ').next()?))
 }
@@ -135,30 +135,24 @@ fn record_named(statement: &str, uses: &Uses) -> Option<String> {
         .then(|| format!("`{owner}/specs/{file}.{record}`"))
 }
 
-/// Whether a contract speaks of what is returned, by the name that it gives it, and of each buffer that is lent to be written.
+/// Whether a contract speaks of what is returned and of each buffer that is lent to be written.
 fn speaks_of_all(function: &Public) -> bool {
     let all = function.ensures.join(" ");
     let lent = function.signature.split(": &mut ").collect::<Vec<_>>();
     let buffers = lent[..lent.len() - 1]
         .iter()
         .map(|before| before.rsplit([' ', '(']).next().unwrap());
-    let result = all
-        .split_once("λ ")
-        .and_then(|(_, rest)| rest.split_once('.'));
-    let is_returned = !function.signature.contains(" -> ")
-        || result.is_some_and(|(name, rest)| rest.split([' ', '(', ')']).any(|word| word == name));
+    let words: BTreeSet<&str> = all.split([' ', '(', ')', '{', '}']).collect();
+    let is_returned = !function.signature.contains(" -> ") || words.contains("result");
     is_returned
         && buffers
             .into_iter()
-            .all(|name| all.contains(&format!("({name} .exit)")))
+            .all(|name| words.contains(format!("{name}.new").as_str()))
 }
 
 /// The form of a contract, as the table has it.
 fn form_of(function: &Public, uses: &Uses) -> String {
-    let statements = function.ensures.iter().flat_map(|clause| {
-        let inner = clause.split('⌜').nth(1).unwrap().split('⌝').next().unwrap();
-        conjuncts(inner.trim())
-    });
+    let statements = function.ensures.iter().flat_map(|clause| conjuncts(clause));
     let mut form = EQUATIONS.to_string();
     let mut is_told = false;
     for statement in statements.map(bare) {
@@ -180,7 +174,7 @@ fn form_of(function: &Public, uses: &Uses) -> String {
 /// All public functions, crate by crate, each with the form of its contract.
 fn contracts() -> Vec<(Public, String)> {
     let mut found = vec![];
-    for code in public::code() {
+    for code in code() {
         let uses = uses_in(&code.text);
         for function in code.public_functions() {
             let form = form_of(&function, &uses);
@@ -229,15 +223,26 @@ fn names_in(rows: &[String], column: usize) -> BTreeSet<String> {
         .collect()
 }
 
-/// The crates of crates.txt in its order, each with those that it depends on.
-fn crates() -> Vec<(String, Vec<String>)> {
-    let words = |text: &str| text.split_whitespace().map(str::to_string).collect();
-    text_of(&top().join("crates.txt"))
-        .lines()
-        .filter(|line| !line.starts_with('#'))
-        .filter_map(|line| line.split_once(':'))
-        .map(|(owner, below)| (owner.trim().to_string(), words(below)))
+/// The crates of crates.txt in its order.
+fn crates() -> Vec<String> {
+    crates::all(&top())
+        .into_iter()
+        .map(|each| each.name)
         .collect()
+}
+
+/// The thin static libraries, each with the library that it hands on to C.
+fn handed_on() -> BTreeMap<String, String> {
+    let pair = |each: crates::Crate| Some((each.name.clone(), each.handed_on()?.to_string()));
+    crates::all(&top()).into_iter().filter_map(pair).collect()
+}
+
+/// The code of all crates but the thin static libraries, whose functions are those of the libraries.
+fn code() -> Vec<Code> {
+    let thin = handed_on();
+    let mut code = public::code();
+    code.retain(|each| !thin.contains_key(&each.owner));
+    code
 }
 
 /// A function's file and its own name.
@@ -265,7 +270,7 @@ fn rows_for(file: &str, names: &[&str], form: &str) -> Vec<String> {
 /// The rows that the table of the other public functions must have: of each crate, by form, one or more for each file.
 fn rows_of(contracts: &[(Public, String)]) -> Vec<String> {
     let mut rows = vec![];
-    for (owner, _) in crates() {
+    for owner in crates() {
         let of_crate = || contracts.iter().filter(|(each, _)| each.owner == owner);
         let forms: BTreeSet<&String> = of_crate().map(|(_, form)| form).collect();
         for form in forms.into_iter().rev() {
@@ -308,8 +313,7 @@ fn others_listed() -> BTreeSet<String> {
 }
 
 fn public_functions() -> Vec<Public> {
-    let code = public::code();
-    code.iter().flat_map(Code::public_functions).collect()
+    code().iter().flat_map(Code::public_functions).collect()
 }
 
 fn names_of<'a>(functions: impl Iterator<Item = &'a Public>) -> BTreeSet<String> {
@@ -328,6 +332,47 @@ fn every_public_function_is_listed_once() {
     assert!(unlisted.is_empty(), "public and not listed: {unlisted:?}");
     let gone: Vec<&String> = listed.difference(&public).collect();
     assert!(gone.is_empty(), "listed and not public: {gone:?}");
+}
+
+/// A public function's head behind its name: parameters, result and clauses; and what is exported.
+fn heads_of(code: &[Code], owner: &str) -> BTreeMap<String, String> {
+    let texts = code.iter().filter(|each| each.owner == owner);
+    let mut heads = BTreeMap::new();
+    for each in texts {
+        for part in each
+            .text
+            .split("#[unsafe(no_mangle)]\npub extern \"C\" fn ")
+            .skip(1)
+        {
+            let (head, _) = part.split_once("\n{\n").unwrap();
+            let (name, rest) = head.split_once('(').unwrap();
+            heads.insert(
+                name.to_string(),
+                rest.split_whitespace().collect::<Vec<_>>().join(" "),
+            );
+        }
+    }
+    heads
+}
+
+#[test]
+fn what_a_thin_static_library_exports_is_the_librarys_by_the_same_clauses() {
+    let code = public::code();
+    let thin = handed_on();
+    assert!(thin.len() > 5, "{} are few", thin.len());
+    for (name, library) in thin {
+        let (exported, own) = (heads_of(&code, &name), heads_of(&code, &library));
+        assert!(!own.is_empty(), "{library} exports nothing");
+        assert_eq!(exported, own, "{name}");
+        let text = &code.iter().find(|each| each.owner == name).unwrap().text;
+        for function in own.keys() {
+            let calls = text.matches(&format!("::{function}(")).count();
+            assert_eq!(
+                calls, 1,
+                "{name}: {function} is to be one call of {library}'s"
+            );
+        }
+    }
 }
 
 #[test]
@@ -380,39 +425,31 @@ fn every_contract_that_is_no_equation_is_explained() {
 
 #[test]
 fn forms_of_contracts_are_told() {
-    let uses = uses_in("ghost use Rattle·wire_clocks·specs.specs.Code.Laid.{Laid};\nghost use Rattle·calendar_days.specs.Code.Places.{StandsIn};\n");
+    let uses = uses_in("ghost use Rattle.wire_clocks.specs.Code.Laid.{Laid};\nghost use Rattle.calendar_days.specs.Code.Places.{StandsIn};\n");
     let form = |signature: &str, ensures: &str| {
         let head = format!("pub fn f({signature} ensures {{ {ensures} }}");
         form_of(&public::public_of("x", "y", &head), &uses)
     };
-    let laid = "λ r. ⌜ Laid (now (b .entry)) 0 [] r (now (b .exit)) ⌝";
+    let laid = "Laid b.old 0 [] result b.new";
     for (signature, ensures, must_be) in [
-        ("x: u8) -> u8", "λ r. ⌜ r ≡ x + 1 ⌝", EQUATIONS),
-        ("x: u8) -> u8", "λ r. ⌜ (r ≡ x) × (r ≤ 7) ⌝", EQUATIONS),
-        (
-            "x: u8) -> u8",
-            "λ r. ⌜ ((m : List ℕ) → r ≡ g m) ⌝",
-            EQUATIONS,
-        ),
-        ("b: &mut [u8])", "λ _. ⌜ now (b .exit) ≡ [] ⌝", EQUATIONS),
+        ("x: u8) -> u8", "result ≡ x + 1", EQUATIONS),
+        ("x: u8) -> u8", "(result ≡ x) × (result ≤ 7)", EQUATIONS),
+        ("x: u8) -> u8", "((m : List ℕ) → result ≡ g m)", EQUATIONS),
+        ("b: &mut [u8])", "b.new ≡ []", EQUATIONS),
         (
             "b: &mut [u8]) -> u8",
             laid,
             "`wire_clocks/specs/Code/Laid.Laid`",
         ),
-        ("b: &mut [u8]) -> u8", "λ r. ⌜ r ≡ 1 ⌝", OTHER_FORM),
-        (
-            "b: &mut [u8]) -> u8",
-            "λ r. ⌜ now (b .exit) ≡ [] ⌝",
-            OTHER_FORM,
-        ),
-        ("x: u8) -> u8", "λ r. ⌜ r ≤ 7 ⌝", OTHER_FORM),
+        ("b: &mut [u8]) -> u8", "result ≡ 1", OTHER_FORM),
+        ("b: &mut [u8]) -> u8", "b.new ≡ []", OTHER_FORM),
+        ("x: u8) -> u8", "result ≤ 7", OTHER_FORM),
         (
             "x: u8) -> u8",
-            "λ r. ⌜ ((s : State) → g s → r ≡ h s) ⌝",
+            "((s : State) → g s → result ≡ h s)",
             OTHER_FORM,
         ),
-        ("x: u8) -> Place", "λ r. ⌜ StandsIn x r ⌝", OTHER_FORM),
+        ("x: u8) -> Place", "StandsIn x result", OTHER_FORM),
     ] {
         assert_eq!(form(signature, ensures), must_be, "{signature}: {ensures}");
     }
@@ -440,18 +477,20 @@ fn files_below(folder: &Path) -> Vec<PathBuf> {
 
 #[test]
 fn the_programs_with_axioms_are_the_crates_that_use_the_c_library() {
-    let uses_c = |below: &[String]| below.iter().any(|name| name == "io" || name == "libc");
-    let programs: BTreeSet<String> = crates()
-        .into_iter()
-        .filter(|(_, below)| uses_c(below))
-        .map(|(owner, _)| owner)
-        .collect();
+    let is_program = |owner: &String| {
+        top()
+            .join("crates")
+            .join(owner)
+            .join("src/main.rt")
+            .is_file()
+    };
+    let programs: BTreeSet<String> = crates().into_iter().filter(is_program).collect();
     assert_eq!(names_in(&rows_below(ASSUMED), 1), programs);
 }
 
 #[test]
 fn no_crate_declares_an_axiom() {
-    let folders = crates().into_iter().flat_map(|(owner, _)| {
+    let folders = crates().into_iter().flat_map(|owner| {
         ["src", "specs", "proofs"].map(|part| top().join("crates").join(&owner).join(part))
     });
     let files: Vec<PathBuf> = folders.flat_map(|folder| files_below(&folder)).collect();

@@ -8,8 +8,6 @@ ghost use Rattle.c_fm31.specs.Run.{RunSettled};
 ghost use Rattle.c_fm31.specs.Fresh.{FreshSettled};
 ghost use Rattle.c_fm31.specs.Single.{SingleSettled};
 
-use c_fm31::{run, step};
-
 // The list run for C, of the 64Kb part.
 #[unsafe(no_mangle)]
 pub extern "C" fn fm3164_run(
@@ -21,7 +19,7 @@ pub extern "C" fn fm3164_run(
     ensures { RunSettled (size_of Kb64) image.old memory.old events.now answers.old
         result image.new memory.new answers.new }
 {
-    run::fm3164_run(image, memory, events, answers)
+    c_fm31::run::fm3164_run(image, memory, events, answers)
 }
 
 // The list run for C, of the 256Kb part.
@@ -35,7 +33,7 @@ pub extern "C" fn fm31256_run(
     ensures { RunSettled (size_of Kb256) image.old memory.old events.now answers.old
         result image.new memory.new answers.new }
 {
-    run::fm31256_run(image, memory, events, answers)
+    c_fm31::run::fm31256_run(image, memory, events, answers)
 }
 
 // Writes the fresh state's image, where the buffer has 64 bytes; any other is left as it is. It serves both sizes.
@@ -43,7 +41,7 @@ pub extern "C" fn fm31256_run(
 pub extern "C" fn fm31_fresh(image: &mut [u8]) -> u64
     ensures { FreshSettled image.old result image.new }
 {
-    run::fm31_fresh(image)
+    c_fm31::run::fm31_fresh(image)
 }
 
 // One event for C, on the 64Kb part.
@@ -57,7 +55,7 @@ pub extern "C" fn fm3164_step(
     ensures { SingleSettled (size_of Kb64) image.old memory.old event told.old
         result image.new memory.new told.new }
 {
-    step::fm3164_step(image, memory, event, told)
+    c_fm31::step::fm3164_step(image, memory, event, told)
 }
 
 // One event for C, on the 256Kb part.
@@ -71,5 +69,5 @@ pub extern "C" fn fm31256_step(
     ensures { SingleSettled (size_of Kb256) image.old memory.old event told.old
         result image.new memory.new told.new }
 {
-    step::fm31256_step(image, memory, event, told)
+    c_fm31::step::fm31256_step(image, memory, event, told)
 }

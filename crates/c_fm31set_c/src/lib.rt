@@ -4,8 +4,6 @@
 
 ghost use Rattle.c_fm31set.specs.Entry.{CheckSettled, RunSettled};
 
-use c_fm31set::entry;
-
 // The number by which a set is refused when it is made, 0 if it is not. Nothing is written.
 #[unsafe(no_mangle)]
 pub extern "C" fn fm31_set_check(
@@ -19,7 +17,7 @@ pub extern "C" fn fm31_set_check(
     ensures { CheckSettled plan.now images.now
         one.now two.now three.now four.now result }
 {
-    entry::fm31_set_check(plan, images, one, two, three, four)
+    c_fm31set::entry::fm31_set_check(plan, images, one, two, three, four)
 }
 
 // The list run: refused by the first number that fits, with nothing written; or every event done on the set, the line
@@ -40,5 +38,5 @@ pub extern "C" fn fm31_set_run(
         events.now answers.old result images.new
         one.new two.new three.new four.new answers.new }
 {
-    entry::fm31_set_run(plan, images, one, two, three, four, events, answers)
+    c_fm31set::entry::fm31_set_run(plan, images, one, two, three, four, events, answers)
 }

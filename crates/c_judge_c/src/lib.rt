@@ -4,12 +4,12 @@
 
 ghost use Rattle.c_judge.specs.Verdict.{JudgeForCSettled};
 
-use c_judge::{Judgement, judge};
+use c_judge::Judgement;
 
 // The verdict for C, as its number and place. The file is only read.
 #[unsafe(no_mangle)]
 pub extern "C" fn fm3130_judge(file: &[u8]) -> Judgement
     ensures { JudgeForCSettled file.now result }
 {
-    judge::fm3130_judge(file)
+    c_judge::judge::fm3130_judge(file)
 }

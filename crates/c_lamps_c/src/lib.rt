@@ -4,7 +4,7 @@
 
 ghost use Rattle.c_lamps.specs.Run.{LampsSettled};
 
-use c_lamps::{Shown, run};
+use c_lamps::Shown;
 
 // The list run with the record: refused by the first number that fits, with nothing written; or every event done, its
 // answer, the image and the record's bytes written, and the report returned.
@@ -19,5 +19,5 @@ pub extern "C" fn fm3130_lamps(
     ensures { LampsSettled image.old memory.old events.now answers.old
         kept.old result image.new memory.new answers.new kept.new }
 {
-    run::fm3130_lamps(image, memory, events, answers, kept)
+    c_lamps::run::fm3130_lamps(image, memory, events, answers, kept)
 }

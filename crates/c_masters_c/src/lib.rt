@@ -4,7 +4,6 @@
 
 ghost use Rattle.c_masters.specs.Outcome.{AskSettled, CallSettled};
 
-use c_masters::entries;
 use c_run::Ran;
 
 // A master asks for the bus: it is refused, with nothing changed, or holds it.
@@ -12,7 +11,7 @@ use c_run::Ran;
 pub extern "C" fn fm3130_ask(bus: &mut [u8], master: u64) -> u64
     ensures { AskSettled bus.old master result bus.new }
 {
-    entries::fm3130_ask(bus, master)
+    c_masters::entries::fm3130_ask(bus, master)
 }
 
 // A master's call of the list run: refused by the first number that fits, with nothing written; or every event done as the
@@ -29,5 +28,5 @@ pub extern "C" fn fm3130_call(
     ensures { CallSettled bus.old master image.old memory.old events.now
         answers.old result bus.new image.new memory.new answers.new }
 {
-    entries::fm3130_call(bus, master, image, memory, events, answers)
+    c_masters::entries::fm3130_call(bus, master, image, memory, events, answers)
 }

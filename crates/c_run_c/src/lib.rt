@@ -5,7 +5,7 @@
 ghost use Rattle.c_run.specs.Run.{RunSettled};
 ghost use Rattle.c_run.specs.Fresh.{FreshSettled};
 
-use c_run::{Ran, run};
+use c_run::Ran;
 
 // The list run: refused by the first number that fits, with nothing written; or every event done, its answer written,
 // and the image of the state that the events lead to.
@@ -19,7 +19,7 @@ pub extern "C" fn fm3130_run(
     ensures { RunSettled image.old memory.old events.now answers.old
         result image.new memory.new answers.new }
 {
-    run::fm3130_run(image, memory, events, answers)
+    c_run::run::fm3130_run(image, memory, events, answers)
 }
 
 // Writes the fresh state's image, where the buffer has 64 bytes; any other is left as it is.
@@ -27,5 +27,5 @@ pub extern "C" fn fm3130_run(
 pub extern "C" fn fm3130_fresh(image: &mut [u8]) -> u64
     ensures { FreshSettled image.old result image.new }
 {
-    run::fm3130_fresh(image)
+    c_run::run::fm3130_fresh(image)
 }
