@@ -51,20 +51,25 @@ fn bodies(text: &str) -> Vec<(&str, String)> {
         .collect()
 }
 
-/// The crate that a file takes a name from, by `use CRATE::..::NAME;`.
+/// The crate that a file takes a name from, by `use CRATE::..::NAME;` or `use CRATE::..::{NAME, ..};`.
 fn imports(code: &Code) -> BTreeMap<&str, String> {
-    let paths = code
-        .text
-        .lines()
-        .filter_map(|line| line.strip_prefix("use ")?.strip_suffix(';'));
-    let parts =
-        paths.filter_map(|path| Some((path.split("::").next()?, path.rsplit("::").next()?)));
-    parts
-        .map(|(from, name)| match from {
-            "crate" => (name, code.owner.clone()),
-            _ => (name, from.to_string()),
-        })
-        .collect()
+    let uses = code.text.split("\nuse ").skip(1);
+    let paths = uses.filter_map(|rest| Some(rest.split_once(';')?.0));
+    let mut found = BTreeMap::new();
+    for path in paths {
+        let from = match path.split("::").next().unwrap() {
+            "crate" => code.owner.clone(),
+            from => from.to_string(),
+        };
+        let last = path.rsplit("::").next().unwrap();
+        let names = last.split(['{', '}', ',']).map(str::trim);
+        found.extend(
+            names
+                .filter(|name| !name.is_empty())
+                .map(|name| (name, from.clone())),
+        );
+    }
+    found
 }
 
 /// The names that are called in a body, each with what stands before it.

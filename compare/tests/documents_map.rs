@@ -159,8 +159,7 @@ fn file_used(line: &str) -> Option<String> {
     let path = line
         .trim_start_matches("unfoldable ")
         .trim_start_matches("pub ");
-    let (owner, rest) = path.strip_prefix("use Rattle·")?.split_once(".specs.")?;
-    let owner = owner.trim_end_matches("·specs");
+    let (owner, rest) = path.strip_prefix("use Rattle.")?.split_once(".specs.")?;
     let module = rest.split([' ', '{']).next()?.trim_end_matches('.');
     let names: Vec<&str> = module.split('.').collect();
     let longest = (1..=names.len()).rev().map(|many| names[..many].join("/"));
