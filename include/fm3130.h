@@ -658,7 +658,7 @@ struct fm3130_mended fm3130_mend(uint8_t *image, uint64_t image_length, uint8_t 
  *   fm3130_write_told(1, answers, sent.count, flags, sizeof flags);
  *
  * With the device powered and no other event between, bytes written to unprotected addresses and
- * then read come back the same. Proved: round-trip and through, crates/law_roundtrip/proofs.
+ * then read come back the same. Proved: round_trip and through, crates/law_roundtrip/proofs.
  */
 
 /*
@@ -845,7 +845,7 @@ struct fm3130_judgement {
  * Uses some 9 KiB of stack, most of it for the copy of the memory, and calls memcpy and memset.
  *
  * Proved: JudgeForCSettled, crates/c_judge/specs/Verdict.antt; that the answer named is the first:
- * names-the-first, crates/c_judge/proofs/Laws.antt. Allocates nothing, keeps nothing, thread-safe.
+ * names_the_first, crates/c_judge/proofs/Laws.antt. Allocates nothing, keeps nothing, thread-safe.
  */
 FM3130_TWO_WORDS
 struct fm3130_judgement fm3130_judge(const uint8_t *file, uint64_t file_length);
@@ -994,7 +994,7 @@ int32_t fm3130_trim_residue(int32_t error, uint64_t sign, uint64_t code);
  *   64        FM3130_TRIM_REFUSED: error is below -20,000 or above 20,000
  *
  * Proved: ProposeNumberSettled, crates/c_trim/specs/Entries.antt; that the setting is always
- * accepted: proposed-number-accepted, crates/c_trim/proofs/Numbers.antt. Allocates nothing, keeps
+ * accepted: proposed_number_accepted, crates/c_trim/proofs/Numbers.antt. Allocates nothing, keeps
  * nothing, thread-safe.
  */
 uint64_t fm3130_trim_propose(int32_t error);

@@ -238,11 +238,12 @@ const OF_THE_INTERFACE: [&str; 6] = [
     "fm3130_", "fm31_", "fm3164_", "fm31256_", "FM3130_", "FM31_",
 ];
 
-/// Names that begin so and are none of it: what tests in Python are given, and a variable of the environment.
-const NOT_OF_C: [&str; 4] = [
+/// Names that begin so and are none of it: what tests in Python are given, a definition of specs, and a variable of the environment.
+const NOT_OF_C: [&str; 5] = [
     "fm3130_as_smbus2",
     "fm3130_bus",
     "fm3130_device",
+    "fm3130_on",
     "FM3130_LIBRARY",
 ];
 
