@@ -143,7 +143,8 @@ fn speaks_of_all(function: &Public) -> bool {
         .iter()
         .map(|before| before.rsplit([' ', '(']).next().unwrap());
     let words: BTreeSet<&str> = all.split([' ', '(', ')', '{', '}']).collect();
-    let is_returned = !function.signature.contains(" -> ") || words.contains("result");
+    let is_result = |word: &&str| *word == "result" || word.starts_with("result.");
+    let is_returned = !function.signature.contains(" -> ") || words.iter().any(is_result);
     is_returned
         && buffers
             .into_iter()
