@@ -39,10 +39,10 @@ sum_of() { # CRATE...
         rt version
         echo "$machine"
         sha256sum tools/native-archive.sh tools/controller-options.sh
+        for name in "$@"; do grep "^$name[ :]" crates.txt; done
         for name in "$@"; do
-            echo "crate $name"
-            tools/sum-of-crate.sh "$name"
-        done
+            for part in src specs proofs; do [ ! -d "crates/$name/$part" ] || printf '%s\0' "crates/$name/$part"; done
+        done | xargs -0 -I{} find {} -type f | LC_ALL=C sort | xargs sha256sum
     } | sha256sum | cut -d' ' -f1
 }
 

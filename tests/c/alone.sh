@@ -4,7 +4,7 @@
 # says of it. One object needs the functions that are named there, which firmware/runtime.c has. FOLDER is made anew.
 set -euo pipefail
 
-needing=c_judge.o
+needing=c_judge_c.o
 needed='memcpy memset'
 
 folder=$1
