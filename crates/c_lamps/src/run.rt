@@ -9,8 +9,8 @@ ghost use Rattle.fm3130_list.specs.Run.{all_known, RanThrough};
 ghost use Rattle.c_lamps.specs.Row.{Row, RowDone};
 ghost use Rattle.c_lamps.specs.Run.{RanWith, RanInImage, LampsSettled};
 
-use crate::{Reached, Shown};
 use crate::row::{after_row, part_length};
+use crate::{Reached, Shown};
 use bus_image::bytes::pair;
 use bus_image::places::{ADDRESS_HIGH_AT, ADDRESS_LOW_AT, CLOCKS_AT, PHASE_AT};
 use c_run::run::run_events;

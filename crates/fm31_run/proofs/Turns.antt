@@ -55,7 +55,7 @@ module _ (z : Seat) (s₀ : State) (m₀ es a₀ : List ℕ) where
         let k = t.known in
         let x = get_or es t.at 0 in
         record {
-            well = rw e.state (heard_well z t.state t.memory x p k.well k.sized);
+          well = rw e.state (heard_well z t.state t.memory x p k.well k.sized);
           sized = rw e.memory (heard_sized z t.state t.memory x p k.well k.sized);
           within = omega arith;
           memory_length = l ∙ k.memory_length;

@@ -63,9 +63,3 @@ returns c =
           };
       answers = l.invariant.3;
     }
-
--- GONE same_length : tie.Need-same-length invariant-loop decreases-loop
--- GONE same_length c = c.before.before.before.loop.invariant.2
-
--- GONE same-length-2 : tie.Need-same-length-2 invariant-loop decreases-loop
--- GONE same-length-2 c = c.before.loop.invariant.2

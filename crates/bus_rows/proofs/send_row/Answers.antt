@@ -117,15 +117,3 @@ returns c =
       image = c.settle-2.ensures ∙ (λ t. set (set (l.invariant.0 t) 27 (l.invariant.4 t)) 28 (get_or s.args.image.now 28 0));
       answers = l.invariant.5;
     }
-
--- GONE same_length : tie.Need-same-length invariant-loop decreases-loop
--- GONE same_length c = settled_length _ _ _ _ _ c.before.before.before.before.before.before.before.loop.invariant.0 c.before.before.settle.ensures
-
--- GONE same-length-2 : tie.Need-same-length-2 invariant-loop decreases-loop
--- GONE same-length-2 c = c.before.before.before.before.before.before.before.loop.invariant.3
-
--- GONE same-length-3 : tie.Need-same-length-3 invariant-loop decreases-loop
--- GONE same-length-3 c = settled_length _ _ _ _ _ c.before.before.before.before.before.loop.invariant.0 c.before.before.settle2.ensures
-
--- GONE same-length-4 : tie.Need-same-length-4 invariant-loop decreases-loop
--- GONE same-length-4 c = c.before.before.before.before.before.loop.invariant.3

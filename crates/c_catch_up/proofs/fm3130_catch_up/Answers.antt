@@ -9,7 +9,6 @@ use Rattle.fm3130_image.proofs.Accepts.{image_read, image_not_read, image_long}
 use Rattle.c_catch_up.proofs.Ways.{catch_up_wrong_image, catch_up_too_many, catch_up_none, catch_up_dark}
 use Rattle.c_catch_up.proofs.Ways.{catch_up_stopped, catch_up_counted}
 use borrow.Author.Rules.{rules}
-
 -- the image was accepted
 use Rattle.c_catch_up.proofs.fm3130_catch_up.Goals as goal
 

@@ -14,7 +14,6 @@ use Rattle.c_mend.specs.Changes.{changed_count}
 use Rattle.c_mend.specs.Mend.{mended_state, time_bytes, changes_in}
 use Rattle.c_mend.proofs.Listing.{count_le, three_bytes_each, room_of_count}
 use Rattle.c_mend.proofs.Ways.{mend_wrong_image, mend_short, mend_done, counted_by_lem, listed_by}
-
 -- where a state was read: the image is that state's
 use Rattle.c_mend.proofs.fm3130_mend.Goals as goal
 

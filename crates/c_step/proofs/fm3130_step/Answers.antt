@@ -9,7 +9,6 @@ use Rattle.fm3130.specs.Chip.{memory_size}
 use Rattle.fm3130_image.specs.Code.Accepting.{is_image}
 use Rattle.fm3130_image.proofs.Accepts.{image_read, image_not_read}
 use Rattle.c_step.proofs.Ways.{single_wrong_memory, single_wrong_image, single_unknown_event, single_short, single_answered, front_set}
-
 -- where the image is accepted, and the memory has its length
 use Rattle.c_step.proofs.fm3130_step.Goals as goal
 

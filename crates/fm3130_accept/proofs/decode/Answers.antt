@@ -8,7 +8,6 @@ use Rattle.fm3130_image.specs.Code.Accepting.{is_image}
 use Rattle.fm3130_image.specs.declared.Decoded.TheVariants.{Good, Bad}
 use Rattle.fm3130_image.proofs.Images.{decode_settled}
 use Rattle.fm3130_image.proofs.Accepts.{image_long, image_read, image_not_read}
-
 -- the image was accepted
 use Rattle.fm3130_accept.proofs.decode.Goals as goal
 

@@ -8,7 +8,6 @@ use borrow.Author.Rules.{rules}
 use borrow.Author.Tests.{not-true, not-false}
 use Rattle.fm3130_image.proofs.Accepts.{image_not_long}
 use Rattle.fm3130_accept.proofs.Tests.{wrong_end, wrong_places, right_so_far}
-
 -- the image holds bytes
 use Rattle.fm3130_accept.proofs.is_image.Goals as goal
 

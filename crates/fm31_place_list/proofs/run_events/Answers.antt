@@ -41,8 +41,3 @@ pub returns : goal.returns
 returns c =
     let l = c.loop-i in
     ran_through _ _ _ _ _ _ _ _ _ c.loop-i-test.false l.invariant.0 l.invariant.1
-
--- GONE same_length : tie.Need-same-length invariant-loop decreases-loop
--- GONE same_length c =
--- GONE     let s = c.before.before.before.before.before.before in
--- GONE     image_long _ _ _ c.before.loop.invariant.0 ∙ sym (image_long _ _ _ s.requires.0.0.image)

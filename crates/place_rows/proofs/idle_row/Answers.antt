@@ -60,9 +60,3 @@ returns c =
     let at6 = c in
     let l = c.loop-i in
     (idle_reached _ _ _ _ at6.requires.image_value.0 _ _ l.invariant.3, λ n k. omega (arith, n, c.loop-i-test.false))
-
--- GONE same_length : tie.Need-same-length invariant-loop decreases-loop
--- GONE same_length c = c.before.before.before.loop.invariant.2
-
--- GONE same-length-2 : tie.Need-same-length-2 invariant-loop decreases-loop
--- GONE same-length-2 c = c.before.loop.invariant.2

@@ -123,19 +123,3 @@ returns c =
       bits_reached _ _ _ _ s.requires.image_value _ _ _ _ _ _ l.invariant.5 (omega (arith, s.requires.bound.0)) l.invariant.0 w,
       λ n k. let f = at6.row_end-end.ensures.3 n (omega (arith, s.requires.bound.2)) in omega (arith, f, at4.loop-i-test.false),
     )
-
--- GONE same_length : tie.Need-same-length invariant-loop decreases-loop
--- GONE same_length c =
--- GONE     let at7 = c.before.before.before.before.before.before.before in
--- GONE     settled_length _ _ _ _ _ at7.loop.invariant.0 c.before.before.settle.ensures
-
--- GONE same-length-2 : tie.Need-same-length-2 invariant-loop decreases-loop
--- GONE same-length-2 c = c.before.before.before.before.before.before.before.loop.invariant.3
-
--- GONE same-length-3 : tie.Need-same-length-3 invariant-loop decreases-loop
--- GONE same-length-3 c =
--- GONE     let at5 = c.before.before.before.before.before in
--- GONE     settled_length _ _ _ _ _ at5.loop.invariant.0 c.before.before.settle2.ensures
-
--- GONE same-length-4 : tie.Need-same-length-4 invariant-loop decreases-loop
--- GONE same-length-4 c = c.before.before.before.before.before.loop.invariant.3

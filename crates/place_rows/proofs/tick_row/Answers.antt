@@ -96,20 +96,3 @@ returns c =
       ticks_reached _ _ _ _ at5.requires.image_value.0 _ _ _ l.invariant.5 l.invariant.2,
       λ n k. omega (arith, n, c.loop-i-test.false),
     )
-
--- GONE same_length : tie.Need-same-length invariant-loop decreases-loop
--- GONE same_length c =
--- GONE     let at3 = c.before.before.before in
--- GONE     let at7 = at3.before.before.before.before in
--- GONE     ap length at3.loop.invariant.2 ∙ image_length _ ∙ sym (image_long _ at7.requires.0.0)
-
--- GONE same-length-2 : tie.Need-same-length-2 invariant-loop decreases-loop
--- GONE same-length-2 c = c.before.before.before.loop.invariant.4
-
--- GONE same-length-3 : tie.Need-same-length-3 invariant-loop decreases-loop
--- GONE same-length-3 c =
--- GONE     let at5 = c.before.before.before.before.before in
--- GONE     ap length c.before.loop.invariant.2 ∙ image_length _ ∙ sym (image_long _ at5.requires.0.0)
-
--- GONE same-length-4 : tie.Need-same-length-4 invariant-loop decreases-loop
--- GONE same-length-4 c = c.before.loop.invariant.4

@@ -9,7 +9,6 @@ use Rattle.set_event.specs.Make.{is_lent, is_within, places_are, selects_differ,
 use Rattle.set_event.specs.Outcome.{lent_to}
 use Rattle.set_make.proofs.Ways.{make_wrong_count, make_wrong_memory, make_wrong_state, make_equal_selects}
 use Rattle.set_make.proofs.Ways.{make_in_transfer, make_accepted}
-
 -- the set, and what each test that was passed says of it
 use Rattle.set_make.proofs.number.Goals as goal
 

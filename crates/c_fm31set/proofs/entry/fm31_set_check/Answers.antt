@@ -8,7 +8,6 @@ use Rattle.set_event.specs.Set.{Together}
 use Rattle.set_event.specs.Make.{is_lent, places_are, count_fits}
 use Rattle.set_event.specs.Outcome.{lent_to}
 use Rattle.c_fm31set.proofs.Entries.{check_wrong_count, check_wrong_memory, check_wrong_state, check_made}
-
 -- the set, and what each test that was passed says
 use Rattle.c_fm31set.proofs.entry.fm31_set_check.Goals as goal
 

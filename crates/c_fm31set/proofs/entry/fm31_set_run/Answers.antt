@@ -8,7 +8,6 @@ use Rattle.set_event.specs.Set.{Together}
 use Rattle.set_event.specs.Outcome.{lent_to, SetFit}
 use Rattle.fm31_image.specs.Image.{image_size}
 use Rattle.c_fm31set.proofs.Entries.{run_refused, images_long, some_device, room_enough, set_fit, run_written}
-
 -- where nothing is refused
 use Rattle.c_fm31set.proofs.entry.fm31_set_run.Goals as goal
 

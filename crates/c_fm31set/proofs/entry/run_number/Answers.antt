@@ -12,7 +12,6 @@ use Rattle.set_event.specs.Outcome.{lent_to}
 use Rattle.set_run.specs.Run.{all_known}
 use Rattle.c_fm31set.proofs.Entries.{run_wrong_count, run_wrong_memory, run_wrong_state, run_unknown_event}
 use Rattle.c_fm31set.proofs.Entries.{run_short_answers, run_equal_selects, run_in_transfer, run_accepted}
-
 -- the set, and what each test that was passed says
 use Rattle.c_fm31set.proofs.entry.run_number.Goals as goal
 

@@ -14,7 +14,6 @@ use Rattle.capture_table.proofs.Finding.{inside}
 use Rattle.c_judge.specs.Verdict.{figures_of}
 use Rattle.c_judge.proofs.Verdicts.{verdict_too_long, verdict_faulty, image_good, memory_length, events_known}
 use Rattle.c_judge.proofs.Verdicts.{answers_inside, replay_done}
-
 -- the file, once its table is known to have no fault, and that it has none
 use Rattle.c_judge.proofs.judge.judge.Goals as goal
 

@@ -29,8 +29,12 @@ with_room-told-requires c =
     let t = c.loop-i-test.true in
     let f = s.args.file.now in
     let h : l.i + c.next_long-long.result ≤ s.args.count = omega (arith, n.1, t) in
-    let e = part_length f s.args.events s.args.count s.requires.count_in_bounds.0 in record { accepted = l.invariant.1; long_in_bounds = (omega (arith, h, s.requires.count_in_bounds.0), omega (arith, h, s.requires.count_in_bounds.1), n.2, omega (arith, h, s.ranges.count.fits)); file_value = ap all_known (sym (section_part f s.args.events s.args.count l.i c.next_long-long.result h))
-            ∙ part_known l.i c.next_long-long.result (section f s.args.events s.args.count) s.requires.file_value (omega (arith, h, e)) }
+    let e = part_length f s.args.events s.args.count s.requires.count_in_bounds.0 in record {
+      accepted = l.invariant.1;
+      long_in_bounds = (omega (arith, h, s.requires.count_in_bounds.0), omega (arith, h, s.requires.count_in_bounds.1), n.2, omega (arith, h, s.ranges.count.fits));
+      file_value = ap all_known (sym (section_part f s.args.events s.args.count l.i c.next_long-long.result h))
+          ∙ part_known l.i c.next_long-long.result (section f s.args.events s.args.count) s.requires.file_value (omega (arith, h, e));
+    }
 
 pub shape_of-image-then-not-agrees : goal.shape_of-image-then-not-agrees
 shape_of-image-then-not-agrees c =

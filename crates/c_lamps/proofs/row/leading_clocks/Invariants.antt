@@ -13,4 +13,3 @@ invariant-loop-i l = (l.i ≤ l.end) × ((x : ℕ) → x < l.i → get_or l.even
 
 abbrev pub decreases-loop-i : goal.decreases-loop-i
 decreases-loop-i l = l.end - l.i
-

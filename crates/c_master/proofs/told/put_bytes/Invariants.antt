@@ -16,4 +16,3 @@ invariant-loop-i l = (l.i ≤ l.count) × (length l.bytes ≡ length l.initial.b
 
 abbrev pub decreases-loop-i : goal.decreases-loop-i
 decreases-loop-i l = l.count - l.i
-

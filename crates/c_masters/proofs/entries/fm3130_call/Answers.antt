@@ -14,7 +14,6 @@ use Rattle.masters_hold.specs.Bus.{may_call, standing_of}
 use Rattle.masters_hold.proofs.Known.{one_byte}
 use Rattle.c_masters.proofs.Ways.{call_wrong_memory, call_wrong_image, call_unknown, call_unknown_event}
 use Rattle.c_masters.proofs.Ways.{call_not_held, call_short_answers, call_done}
-
 -- where the image is accepted, and the memory has its length
 use Rattle.c_masters.proofs.entries.fm3130_call.Goals as goal
 

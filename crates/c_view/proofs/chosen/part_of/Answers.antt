@@ -7,7 +7,6 @@ use borrow.Author.Rules.{rules}
 use Rattle.numbers.specs.Numbers.{accepted}
 use Rattle.c_view.specs.View.{view_number}
 use Rattle.c_view.proofs.Views.{memory_part, registers_part, registers_count, part_of_memory, part_of_registers, no_part}
-
 -- the number, and that it was 0
 use Rattle.c_view.proofs.chosen.part_of.Goals as goal
 

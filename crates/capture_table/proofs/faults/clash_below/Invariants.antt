@@ -13,4 +13,3 @@ invariant-loop-i l = (l.i ≤ l.n) × (l.any ≡ clashes_below l.file l.entry l.
 
 abbrev pub decreases-loop-i : goal.decreases-loop-i
 decreases-loop-i l = l.n - l.i
-

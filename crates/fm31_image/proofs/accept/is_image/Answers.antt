@@ -7,7 +7,6 @@ use lib.ListN.{get_or}
 use borrow.Author.Rules.{rules}
 use borrow.Author.Tests.{not-true, not-false}
 use Rattle.fm31_image.proofs.Accepts.{image_not_long, wrong_same, wrong_places, right_so_far}
-
 -- the image holds bytes
 use Rattle.fm31_image.proofs.accept.is_image.Goals as goal
 

@@ -8,7 +8,6 @@ use Rattle.fm31_image.specs.Accepting.{is_image}
 use Rattle.fm31_image.specs.declared.Decoded.TheVariants.{Good, Bad}
 use Rattle.fm31_image.proofs.Accepts.{image_long, image_read, image_not_read}
 use Rattle.fm31_image.proofs.Images.{decode_settled}
-
 -- the image was accepted
 use Rattle.fm31_image.proofs.image.decode.Goals as goal
 

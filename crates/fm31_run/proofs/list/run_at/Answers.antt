@@ -13,7 +13,7 @@ loop-i-preserved c =
     let a = c.args in
     let l = c.loop-i in
     let turn : Turn a.seat a.state a.memory.now a.events.now a.answers.now =
-        record { state = l.at; memory = l.memory; answers = l.answers; at = l.i; known = l.invariant } in
+    record { state = l.at; memory = l.memory; answers = l.answers; at = l.i; known = l.invariant } in
     let new = c.hear_in_place.new in
     turned_known a.seat a.state a.memory.now a.events.now a.answers.now turn new.state new.memory
     c.hear_in_place.result c.requires.state_value.2 c.loop-i-test.true c.requires.place_bound.1

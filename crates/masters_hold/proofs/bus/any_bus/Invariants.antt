@@ -14,4 +14,3 @@ invariant-loop-i l = (l.i ≤ length l.events) × ((l.any || any_bus (drop l.i l
 
 abbrev pub decreases-loop-i : goal.decreases-loop-i
 decreases-loop-i l = length l.events - l.i
-

@@ -14,4 +14,3 @@ invariant-loop-i l = (l.i ≤ length l.events) × (frees l.freed (drop l.i l.eve
 
 abbrev pub decreases-loop-i : goal.decreases-loop-i
 decreases-loop-i l = length l.events - l.i
-

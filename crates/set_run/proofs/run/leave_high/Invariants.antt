@@ -8,7 +8,7 @@ invariant-loop-i l =
     record {
       within : l.i ≤ l.count;
       same_length : length l.answers ≡ length l.fn.answers;
-      passed : l.answers ≡ replicate l.i 1 ++ drop l.i l.fn.answers
+      passed : l.answers ≡ replicate l.i 1 ++ drop l.i l.fn.answers;
     }
 
 abbrev pub decreases-loop-i : goal.decreases-loop-i

@@ -15,11 +15,14 @@ run_at-last-requires c =
     let s = i in
     let a = s.args in
     let h = held a.member a.memory.now in
-    let k = lt-ltb a.place a.count i.if-place-count.true in record { state_value = (
+    let k = lt-ltb a.place a.count i.if-place-count.true in record {
+      state_value = (
         rw z.size_of.ensures (fit_well a.count a.place h s.requires.fit k),
         rw z.size_of.ensures (fit_length a.count a.place h s.requires.fit k),
         rw z.size_of.ensures (size_positive a.member.size),
-      ); place_bound = s.requires.place_bound }
+      );
+      place_bound = s.requires.place_bound;
+    }
 
 pub returns-then-place-count : goal.returns-then-place-count
 returns-then-place-count c =

@@ -13,4 +13,3 @@ invariant-loop-i l = (l.i ≤ length l.from) × (length l.events ≡ length l.in
 
 abbrev pub decreases-loop-i : goal.decreases-loop-i
 decreases-loop-i l = length l.from - l.i
-

@@ -15,4 +15,3 @@ invariant-loop-i l = (l.i ≤ l.count) × (l.place ≡ l.at + 9 * l.i) × (lengt
 
 abbrev pub decreases-loop-i : goal.decreases-loop-i
 decreases-loop-i l = l.count - l.i
-

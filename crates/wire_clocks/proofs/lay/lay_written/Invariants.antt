@@ -16,4 +16,3 @@ invariant-loop-i l = (l.i ≤ length l.bytes) × (l.place ≡ l.at + 9 * l.i) ×
 
 abbrev pub decreases-loop-i : goal.decreases-loop-i
 decreases-loop-i l = length l.bytes - l.i
-
