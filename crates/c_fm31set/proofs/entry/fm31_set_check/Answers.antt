@@ -36,7 +36,7 @@ returns-then-not-read c =
     let a = r.args in
     sym (check_wrong_state a.plan.now a.images.now a.one.now a.two.now a.three.now
     a.four.now r.read_set-read.result r.read_set-read.ensures ((let shown : count_fits ((let a = f.args in lent_to f.read_set-read.result.set a.one.now a.two.now a.three.now a.four.now)) ≡ true = sym f.is_count.ensures ∙ f.if-not-is_count.false in shown)) ((let shown : places_are is_lent ((let a = l.args in lent_to l.read_set-read.result.set a.one.now a.two.now a.three.now a.four.now)) ≡ true = sym l.are_lent.ensures ∙ l.if-not-are_lent.false in shown))
-    (c.if-not-read.true))
+    ((not-true _ c.if-not-read.true)))
 
 pub returns : goal.returns
 returns c =
@@ -47,4 +47,4 @@ returns c =
     c.number.ensures
     ∙ sym (check_made a.plan.now a.images.now a.one.now a.two.now a.three.now
     a.four.now r.read_set-read.result r.read_set-read.ensures ((let shown : count_fits ((let a = f.args in lent_to f.read_set-read.result.set a.one.now a.two.now a.three.now a.four.now)) ≡ true = sym f.is_count.ensures ∙ f.if-not-is_count.false in shown)) ((let shown : places_are is_lent ((let a = l.args in lent_to l.read_set-read.result.set a.one.now a.two.now a.three.now a.four.now)) ≡ true = sym l.are_lent.ensures ∙ l.if-not-are_lent.false in shown))
-    (c.if-not-read.false))
+    ((not-false _ c.if-not-read.false)))

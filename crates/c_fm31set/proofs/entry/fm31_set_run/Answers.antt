@@ -20,11 +20,24 @@ returns-then-number-ne-ACCEPTED c =
     a.events.now a.answers.now r.result r.ensures n.result n.ensures c.if-number-ne-ACCEPTED.true
 
 pub run_events-last-requires : goal.run_events-last-requires
-run_events-last-requires c = let e = c in record { set_fit = (let shown : SetFit ((let a = e.args in lent_to e.read_set-read.result.set a.one.now a.two.now a.three.now a.four.now)) = let a = e.args in let r = e.read_set-read in let n = e.run_number-number in set_fit a.plan.now a.images.now a.one.now a.two.now a.three.now a.four.now a.events.now a.answers.now r.result r.ensures n.result n.ensures e.if-number-ne-ACCEPTED.false in shown); room = ((let shown : 0 < ((let a = e.args in lent_to e.read_set-read.result.set a.one.now a.two.now a.three.now a.four.now)).set.count = let a = e.args in let r = e.read_set-read in let n = e.run_number-number in some_device a.plan.now a.images.now a.one.now a.two.now a.three.now a.four.now a.events.now a.answers.now r.result r.ensures n.result n.ensures e.if-number-ne-ACCEPTED.false in shown), (let shown : length e.args.events.now ≤ length e.args.answers.now = let a = e.args in let r = e.read_set-read in let n = e.run_number-number in room_enough a.plan.now a.images.now a.one.now a.two.now a.three.now a.four.now a.events.now a.answers.now r.result r.ensures n.result n.ensures e.if-number-ne-ACCEPTED.false in shown)) }
+run_events-last-requires c =
+    let a = c.args in
+    let r = c.read_set-read in
+    let n = c.run_number-number in
+    record {
+      set_fit = set_fit a.plan.now a.images.now a.one.now a.two.now a.three.now a.four.now a.events.now a.answers.now
+        r.result r.ensures n.result n.ensures c.if-number-ne-ACCEPTED.false;
+      room = room_enough a.plan.now a.images.now a.one.now a.two.now a.three.now a.four.now a.events.now a.answers.now
+        r.result r.ensures n.result n.ensures c.if-number-ne-ACCEPTED.false;
+    }
 
 pub write_images-requires : goal.write_images-requires
 write_images-requires c =
-    (let shown : length c.args.images.now ≡ image_size * c.read_set-read.result.set.count = let a = c.args in let r = c.read_set-read in let n = c.run_number-number in images_long a.plan.now a.images.now a.one.now a.two.now a.three.now a.four.now a.events.now a.answers.now r.result r.ensures n.result n.ensures c.if-number-ne-ACCEPTED.false in shown)
+    let a = c.args in
+    let r = c.read_set-read in
+    let n = c.run_number-number in
+    images_long a.plan.now a.images.now a.one.now a.two.now a.three.now a.four.now a.events.now a.answers.now r.result
+    r.ensures n.result n.ensures c.if-number-ne-ACCEPTED.false
 
 pub returns : goal.returns
 returns c =

@@ -34,7 +34,7 @@ returns-then-not-read c =
     let l = c in
     let f = l in
     let a = f.args in
-    sym (run_wrong_state a.read.good ((let a = f.args in lent_to a.read.set a.one.now a.two.now a.three.now a.four.now)) a.events.now a.room ((let shown : count_fits ((let a = f.args in lent_to a.read.set a.one.now a.two.now a.three.now a.four.now)) ≡ true = sym f.is_count.ensures ∙ f.if-not-is_count.false in shown)) ((let shown : places_are is_lent ((let a = l.args in lent_to a.read.set a.one.now a.two.now a.three.now a.four.now)) ≡ true = sym l.are_lent.ensures ∙ l.if-not-are_lent.false in shown)) (c.if-not-read.true))
+    sym (run_wrong_state a.read.good ((let a = f.args in lent_to a.read.set a.one.now a.two.now a.three.now a.four.now)) a.events.now a.room ((let shown : count_fits ((let a = f.args in lent_to a.read.set a.one.now a.two.now a.three.now a.four.now)) ≡ true = sym f.is_count.ensures ∙ f.if-not-is_count.false in shown)) ((let shown : places_are is_lent ((let a = l.args in lent_to a.read.set a.one.now a.two.now a.three.now a.four.now)) ≡ true = sym l.are_lent.ensures ∙ l.if-not-are_lent.false in shown)) ((not-true _ c.if-not-read.true)))
 
 pub all_known-requires : goal.all_known-requires
 all_known-requires c =
@@ -47,7 +47,7 @@ returns-then-not-all_known c =
     let l = w in
     let f = l in
     let a = f.args in
-    sym (run_unknown_event a.read.good ((let a = f.args in lent_to a.read.set a.one.now a.two.now a.three.now a.four.now)) a.events.now a.room ((let shown : count_fits ((let a = f.args in lent_to a.read.set a.one.now a.two.now a.three.now a.four.now)) ≡ true = sym f.is_count.ensures ∙ f.if-not-is_count.false in shown)) ((let shown : places_are is_lent ((let a = l.args in lent_to a.read.set a.one.now a.two.now a.three.now a.four.now)) ≡ true = sym l.are_lent.ensures ∙ l.if-not-are_lent.false in shown)) ((let shown : w.args.read.good ≡ true = w.if-not-read.false in shown))
+    sym (run_unknown_event a.read.good ((let a = f.args in lent_to a.read.set a.one.now a.two.now a.three.now a.four.now)) a.events.now a.room ((let shown : count_fits ((let a = f.args in lent_to a.read.set a.one.now a.two.now a.three.now a.four.now)) ≡ true = sym f.is_count.ensures ∙ f.if-not-is_count.false in shown)) ((let shown : places_are is_lent ((let a = l.args in lent_to a.read.set a.one.now a.two.now a.three.now a.four.now)) ≡ true = sym l.are_lent.ensures ∙ l.if-not-are_lent.false in shown)) ((let shown : w.args.read.good ≡ true = (not-false _ w.if-not-read.false) in shown))
     (sym c.all_known.ensures ∙ c.if-not-all_known.true))
 
 pub returns-then-room-events : goal.returns-then-room-events
@@ -57,7 +57,7 @@ returns-then-room-events c =
     let l = w in
     let f = l in
     let a = f.args in
-    sym (run_short_answers a.read.good ((let a = f.args in lent_to a.read.set a.one.now a.two.now a.three.now a.four.now)) a.events.now a.room ((let shown : count_fits ((let a = f.args in lent_to a.read.set a.one.now a.two.now a.three.now a.four.now)) ≡ true = sym f.is_count.ensures ∙ f.if-not-is_count.false in shown)) ((let shown : places_are is_lent ((let a = l.args in lent_to a.read.set a.one.now a.two.now a.three.now a.four.now)) ≡ true = sym l.are_lent.ensures ∙ l.if-not-are_lent.false in shown)) ((let shown : w.args.read.good ≡ true = w.if-not-read.false in shown)) ((let shown : (let a = k.args in all_known a.read.set.count a.events.now ≡ true) = sym k.all_known.ensures ∙ k.if-not-all_known.false in shown))
+    sym (run_short_answers a.read.good ((let a = f.args in lent_to a.read.set a.one.now a.two.now a.three.now a.four.now)) a.events.now a.room ((let shown : count_fits ((let a = f.args in lent_to a.read.set a.one.now a.two.now a.three.now a.four.now)) ≡ true = sym f.is_count.ensures ∙ f.if-not-is_count.false in shown)) ((let shown : places_are is_lent ((let a = l.args in lent_to a.read.set a.one.now a.two.now a.three.now a.four.now)) ≡ true = sym l.are_lent.ensures ∙ l.if-not-are_lent.false in shown)) ((let shown : w.args.read.good ≡ true = (not-false _ w.if-not-read.false) in shown)) ((let shown : (let a = k.args in all_known a.read.set.count a.events.now ≡ true) = sym k.all_known.ensures ∙ k.if-not-all_known.false in shown))
     c.if-room-events.true)
 
 pub returns-then-not-selects_differ : goal.returns-then-not-selects_differ
@@ -68,7 +68,7 @@ returns-then-not-selects_differ c =
     let l = w in
     let f = l in
     let a = f.args in
-    sym (run_equal_selects a.read.good ((let a = f.args in lent_to a.read.set a.one.now a.two.now a.three.now a.four.now)) a.events.now a.room ((let shown : count_fits ((let a = f.args in lent_to a.read.set a.one.now a.two.now a.three.now a.four.now)) ≡ true = sym f.is_count.ensures ∙ f.if-not-is_count.false in shown)) ((let shown : places_are is_lent ((let a = l.args in lent_to a.read.set a.one.now a.two.now a.three.now a.four.now)) ≡ true = sym l.are_lent.ensures ∙ l.if-not-are_lent.false in shown)) ((let shown : w.args.read.good ≡ true = w.if-not-read.false in shown)) ((let shown : (let a = k.args in all_known a.read.set.count a.events.now ≡ true) = sym k.all_known.ensures ∙ k.if-not-all_known.false in shown))
+    sym (run_equal_selects a.read.good ((let a = f.args in lent_to a.read.set a.one.now a.two.now a.three.now a.four.now)) a.events.now a.room ((let shown : count_fits ((let a = f.args in lent_to a.read.set a.one.now a.two.now a.three.now a.four.now)) ≡ true = sym f.is_count.ensures ∙ f.if-not-is_count.false in shown)) ((let shown : places_are is_lent ((let a = l.args in lent_to a.read.set a.one.now a.two.now a.three.now a.four.now)) ≡ true = sym l.are_lent.ensures ∙ l.if-not-are_lent.false in shown)) ((let shown : w.args.read.good ≡ true = (not-false _ w.if-not-read.false) in shown)) ((let shown : (let a = k.args in all_known a.read.set.count a.events.now ≡ true) = sym k.all_known.ensures ∙ k.if-not-all_known.false in shown))
     r.if-room-events.false
     (sym (c.selects_differ.ensures a.one.now a.two.now a.three.now a.four.now)
     ∙ c.if-not-selects_differ.true))
@@ -82,7 +82,7 @@ returns-then-not-stand_together c =
     let l = w in
     let f = l in
     let a = f.args in
-    sym (run_in_transfer a.read.good ((let a = f.args in lent_to a.read.set a.one.now a.two.now a.three.now a.four.now)) a.events.now a.room ((let shown : count_fits ((let a = f.args in lent_to a.read.set a.one.now a.two.now a.three.now a.four.now)) ≡ true = sym f.is_count.ensures ∙ f.if-not-is_count.false in shown)) ((let shown : places_are is_lent ((let a = l.args in lent_to a.read.set a.one.now a.two.now a.three.now a.four.now)) ≡ true = sym l.are_lent.ensures ∙ l.if-not-are_lent.false in shown)) ((let shown : w.args.read.good ≡ true = w.if-not-read.false in shown)) ((let shown : (let a = k.args in all_known a.read.set.count a.events.now ≡ true) = sym k.all_known.ensures ∙ k.if-not-all_known.false in shown))
+    sym (run_in_transfer a.read.good ((let a = f.args in lent_to a.read.set a.one.now a.two.now a.three.now a.four.now)) a.events.now a.room ((let shown : count_fits ((let a = f.args in lent_to a.read.set a.one.now a.two.now a.three.now a.four.now)) ≡ true = sym f.is_count.ensures ∙ f.if-not-is_count.false in shown)) ((let shown : places_are is_lent ((let a = l.args in lent_to a.read.set a.one.now a.two.now a.three.now a.four.now)) ≡ true = sym l.are_lent.ensures ∙ l.if-not-are_lent.false in shown)) ((let shown : w.args.read.good ≡ true = (not-false _ w.if-not-read.false) in shown)) ((let shown : (let a = k.args in all_known a.read.set.count a.events.now ≡ true) = sym k.all_known.ensures ∙ k.if-not-all_known.false in shown))
     r.if-room-events.false ((let shown : selects_differ ((let a = u.args in lent_to a.read.set a.one.now a.two.now a.three.now a.four.now)) ≡ true = let a = u.args in sym (u.selects_differ.ensures a.one.now a.two.now a.three.now a.four.now) ∙ u.if-not-selects_differ.false in shown))
     (sym (c.stand_together.ensures a.one.now a.two.now a.three.now a.four.now)
     ∙ c.if-not-stand_together.true))
@@ -96,7 +96,7 @@ returns c =
     let l = w in
     let f = l in
     let a = f.args in
-    sym (run_accepted a.read.good ((let a = f.args in lent_to a.read.set a.one.now a.two.now a.three.now a.four.now)) a.events.now a.room ((let shown : count_fits ((let a = f.args in lent_to a.read.set a.one.now a.two.now a.three.now a.four.now)) ≡ true = sym f.is_count.ensures ∙ f.if-not-is_count.false in shown)) ((let shown : places_are is_lent ((let a = l.args in lent_to a.read.set a.one.now a.two.now a.three.now a.four.now)) ≡ true = sym l.are_lent.ensures ∙ l.if-not-are_lent.false in shown)) ((let shown : w.args.read.good ≡ true = w.if-not-read.false in shown)) ((let shown : (let a = k.args in all_known a.read.set.count a.events.now ≡ true) = sym k.all_known.ensures ∙ k.if-not-all_known.false in shown))
+    sym (run_accepted a.read.good ((let a = f.args in lent_to a.read.set a.one.now a.two.now a.three.now a.four.now)) a.events.now a.room ((let shown : count_fits ((let a = f.args in lent_to a.read.set a.one.now a.two.now a.three.now a.four.now)) ≡ true = sym f.is_count.ensures ∙ f.if-not-is_count.false in shown)) ((let shown : places_are is_lent ((let a = l.args in lent_to a.read.set a.one.now a.two.now a.three.now a.four.now)) ≡ true = sym l.are_lent.ensures ∙ l.if-not-are_lent.false in shown)) ((let shown : w.args.read.good ≡ true = (not-false _ w.if-not-read.false) in shown)) ((let shown : (let a = k.args in all_known a.read.set.count a.events.now ≡ true) = sym k.all_known.ensures ∙ k.if-not-all_known.false in shown))
     r.if-room-events.false ((let shown : selects_differ ((let a = u.args in lent_to a.read.set a.one.now a.two.now a.three.now a.four.now)) ≡ true = let a = u.args in sym (u.selects_differ.ensures a.one.now a.two.now a.three.now a.four.now) ∙ u.if-not-selects_differ.false in shown))
     (sym (c.stand_together.ensures a.one.now a.two.now a.three.now a.four.now)
     ∙ c.if-not-stand_together.false))
