@@ -2,12 +2,11 @@
 -- What a tick says: the highest field in which the calendars before and after differ, whatever the calendar; and nothing
 -- exactly where the calendar is invalid. A valid calendar's seconds always change.
 use mathlib.Core.Path.{◌≡◌, refl, sym, ◌∙◌}
-use mathlib.Core.Bool.{Bool, true, false, cond}
+use mathlib.Core.Bool.{Bool, true, false}
 use Rattle.calendar.specs.Highest.{changed_of, highest_of}
 use Rattle.calendar.specs.Next.{is_valid, seconds_of, minutes_of, hours_of, date_of, month_of, tick_of, next_of}
 use Rattle.calendar.specs.declared.Calendar.{Calendar}
-use Rattle.calendar.specs.declared.Rolled.{Rolled}
-use Rattle.calendar.specs.declared.Rolled.TheVariants.{Nothing, Seconds, Minutes, Hours, Date, Month, Year}
+use Rattle.calendar.specs.declared.Rolled.TheVariants.{Nothing}
 use borrow.Author.Tests.{eq-eqb}
 use Prim.Native.Nat.{ℕ}
 use native.Mathlib.Omega.{arith}

@@ -7,7 +7,7 @@ use Prim.Native.Nat.{ℕ, ◌≤◌, ◌<◌}
 use native.Mathlib.Omega.{arith}
 use lib.Dec.{T, leb, lit<, lit≤}
 use borrow.Author.Tests.{leb-true, le-leb}
-use Rattle.calendar.specs.Field.{value, bcd, in_field}
+use Rattle.calendar.specs.Field.{value, in_field}
 use Rattle.calendar.specs.Next.{is_valid, length_of}
 use Rattle.calendar.specs.Mend.{mended_field, ranged_of, clipped_date, mended_of}
 use Rattle.calendar.specs.declared.Calendar.{Calendar}

@@ -10,7 +10,7 @@
 --   SixPlacesOn, SixPlaces      the day of the week has then moved on by six places; what that is for each day
 --   Comes, NoneSkipped          every date and time comes within a century
 --
-use Rattle.std.specs.Prelude.{ℕ, zero, suc, ◌+◌, ◌≤◌, ◌<◌, ◌≡◌, true, cond, List, [], ◌∷◌, map, eqb}
+use Rattle.std.specs.Prelude.{ℕ, zero, suc, ◌+◌, ◌≤◌, ◌<◌, ◌≡◌, true, cond, [], ◌∷◌, map, eqb}
 use Rattle.calendar.specs.Next.{is_valid, next_of}
 use Rattle.calendar.specs.After.{after}
 use Rattle.calendar.specs.declared.Calendar.{Calendar}

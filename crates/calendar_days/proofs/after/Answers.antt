@@ -3,7 +3,6 @@
 use mathlib.Core.Path.{sym, ◌∙◌}
 use Rattle.calendar.proofs.Tests.{true_test}
 use Rattle.calendar_days.proofs.Later.{after_of_invalid}
-use borrow.Author.Rules.{rules}
 use Rattle.calendar_days.proofs.after.Goals as goal
 
 pub standing-from-requires : goal.standing-from-requires

@@ -2,8 +2,6 @@
 -- `calendar::Calendar::is_valid` meets its contract: each test in turn is the definition's, and the last is both the date's
 -- and the month's.
 use mathlib.Core.Path.{sym, ◌∙◌}
-use borrow.Author.Rules.{rules}
-use borrow.Author.Tests.{not-true, not-false}
 use Rattle.calendar.specs.Field.{in_field}
 use Rattle.calendar.proofs.Digits.{last_date_digit, date_tested}
 use Rattle.calendar.proofs.Valid.{wrong_seconds, wrong_minutes, wrong_hours, wrong_day, wrong_year, right_but_date}

@@ -1,7 +1,6 @@
 -- SPDX-License-Identifier: Apache-2.0
 -- `calendar::Calendar::length` meets its contract: the month's length at the two numbers that were read.
 use mathlib.Core.Path.{◌∙◌}
-use borrow.Author.Rules.{rules}
 use Rattle.calendar.proofs.Calendar.length.Goals as goal
 
 pub returns : goal.returns

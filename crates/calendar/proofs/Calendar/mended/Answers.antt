@@ -1,7 +1,6 @@
 -- SPDX-License-Identifier: Apache-2.0
 -- `calendar::Calendar::mended` meets its contract: the fields that were put right, and of these the date clipped to its month,
 -- which has at most 31 days.
-use borrow.Author.Rules.{rules}
 use Rattle.calendar.specs.Mend.{mended_of}
 use Rattle.calendar.proofs.Mend.{ranged_below}
 use Rattle.calendar.proofs.Calendar.mended.Goals as goal

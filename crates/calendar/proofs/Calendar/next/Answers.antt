@@ -2,7 +2,6 @@
 -- `calendar::Calendar::next` meets its contract: the test is the definition's, and each side returns what the
 -- definition has there.
 use mathlib.Core.Path.{sym, ◌∙◌}
-use borrow.Author.Rules.{rules}
 use Rattle.calendar.specs.Next.{next_of}
 use Rattle.calendar.proofs.Tests.{true_test}
 use Rattle.calendar.proofs.Calendar.next.Goals as goal

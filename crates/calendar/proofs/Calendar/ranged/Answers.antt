@@ -1,6 +1,5 @@
 -- SPDX-License-Identifier: Apache-2.0
 -- `calendar::Calendar::ranged` meets its contract: the fields one by one.
-use borrow.Author.Rules.{rules}
 use Rattle.calendar.specs.Mend.{ranged_of}
 use Rattle.calendar.proofs.Calendar.ranged.Goals as goal
 

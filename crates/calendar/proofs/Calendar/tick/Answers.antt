@@ -6,7 +6,6 @@ use mathlib.Core.Path.{subst, sym}
 use Prim.Native.Nat.{ℕ, ◌<◌}
 use native.Mathlib.Omega.{arith}
 use lib.Dec.{T, lit<}
-use borrow.Author.Rules.{rules}
 use Rattle.calendar.specs.Field.{value, in_field}
 use Rattle.calendar.proofs.Field.{in_field_test}
 use Rattle.calendar.proofs.Month.{month_length_limits}

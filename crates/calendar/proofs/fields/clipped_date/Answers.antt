@@ -1,6 +1,5 @@
 -- SPDX-License-Identifier: Apache-2.0
 -- `calendar::fields::clipped_date` meets its contract: its test is the definition's.
-use borrow.Author.Rules.{rules}
 use borrow.Author.Tests.{le-leb, lt-leb}
 use Rattle.calendar.proofs.fields.clipped_date.Goals as goal
 

@@ -1,6 +1,5 @@
 -- SPDX-License-Identifier: Apache-2.0
 -- `calendar::fields::in_field` meets its contract: its three tests are the definition's, the number being the byte's.
-use borrow.Author.Rules.{rules}
 use Rattle.calendar.specs.Field.{in_field}
 use Rattle.calendar.proofs.fields.in_field.Goals as goal
 

@@ -1,8 +1,6 @@
 -- SPDX-License-Identifier: Apache-2.0
 -- `calendar::fields::mended_field` meets its contract: its test is the definition's.
 use mathlib.Core.Path.{sym, ◌∙◌}
-use borrow.Author.Rules.{rules}
-use borrow.Author.Tests.{not-true, not-false}
 use Rattle.calendar.proofs.fields.mended_field.Goals as goal
 
 pub returns-then-not-in_field : goal.returns-then-not-in_field

@@ -3,8 +3,6 @@
 -- byte, since a field whose number is below 100 is at most 99h.
 use mathlib.Core.Path.{sym, ◌∙◌}
 use native.Mathlib.Omega.{arith}
-use borrow.Author.Tests.{not-true, not-false}
-use borrow.Author.Rules.{rules}
 use Rattle.calendar.proofs.Field.{in_field_facts}
 use Rattle.calendar.proofs.Step.{step_none, step_top, step_nine, step_less}
 use Rattle.calendar.proofs.fields.step.Goals as goal

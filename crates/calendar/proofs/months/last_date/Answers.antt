@@ -1,7 +1,6 @@
 -- SPDX-License-Identifier: Apache-2.0
 -- `calendar::months::last_date` meets its contract: each month's own byte by computing, February by its own function, and a
 -- byte that is none of them is no month.
-use borrow.Author.Rules.{rules}
 use Rattle.calendar.specs.Field.{in_field}
 use Rattle.calendar.specs.Month.{month_length}
 use Rattle.calendar.proofs.Digits.{no_month}

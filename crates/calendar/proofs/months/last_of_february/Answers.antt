@@ -1,6 +1,5 @@
 -- SPDX-License-Identifier: Apache-2.0
 -- `calendar::months::last_of_february` meets its contract: both of its returns cite February's case in Digits.
-use borrow.Author.Rules.{rules}
 use Rattle.calendar.proofs.Digits.{february_leap, february_common}
 use Rattle.calendar.proofs.months.last_of_february.Goals as goal
 

@@ -1,6 +1,5 @@
 -- SPDX-License-Identifier: Apache-2.0
 -- `calendar::months::month_length` meets its contract: each of its returns cites the month's case in Month.
-use borrow.Author.Rules.{rules}
 use Rattle.calendar.proofs.Month.{month_length_none, month_length_zero, month_length_leap}
 use Rattle.calendar.proofs.Month.{month_length_february, month_length_other}
 use Rattle.calendar.proofs.months.month_length.Goals as goal

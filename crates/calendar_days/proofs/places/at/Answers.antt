@@ -4,7 +4,6 @@ use mathlib.Core.Path.{◌∙◌, ap}
 use native.Mathlib.Omega.{arith}
 use Rattle.calendar.specs.Field.{bcd}
 use Rattle.calendar_days.proofs.Later.{date_below, placed_on}
-use borrow.Author.Rules.{rules}
 use Rattle.calendar_days.proofs.places.at.Goals as goal
 
 pub place_of-place-requires : goal.place_of-place-requires

@@ -5,7 +5,6 @@ use native.Mathlib.Omega.{arith}
 use Rattle.calendar.proofs.Valid.{valid_facts}
 use Rattle.calendar_days.proofs.Months.{month_start_most}
 use Rattle.calendar_days.proofs.Standing.{stood}
-use borrow.Author.Rules.{rules}
 use Rattle.calendar_days.proofs.places.standing.Goals as goal
 
 pub overflow_sub-month : goal.overflow_sub-month

@@ -1,7 +1,6 @@
 -- SPDX-License-Identifier: Apache-2.0
 -- `calendar_days::places::year_of` meets its contract.
 use native.Mathlib.Omega.{arith}
-use borrow.Author.Rules.{rules}
 use Rattle.calendar_days.proofs.places.year_of.Goals as goal
 
 pub returns-then-year-lt100 : goal.returns-then-year-lt100

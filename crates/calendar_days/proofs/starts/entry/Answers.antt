@@ -2,7 +2,6 @@
 -- `calendar_days::starts::entry` meets its contract: the month's place in the row of its year.
 use native.Mathlib.Omega.{arith}
 use Rattle.calendar_days.proofs.StartTable.{entry_by_row}
-use borrow.Author.Rules.{rules}
 use Rattle.calendar_days.proofs.starts.entry.Goals as goal
 
 pub starts_in-requires : goal.starts_in-requires

@@ -2,7 +2,6 @@
 -- `calendar_days::starts::month_start` meets its contract: the month's entry, or that of the month a century before it.
 use native.Mathlib.Omega.{arith}
 use Rattle.calendar_days.proofs.StartTable.{this_century, next_century}
-use borrow.Author.Rules.{rules}
 use Rattle.calendar_days.proofs.starts.month_start.Goals as goal
 
 pub entry-requires : goal.entry-requires

@@ -4,7 +4,6 @@ use mathlib.Core.Path.{refl}
 use Prim.Native.Nat.{zero-le}
 use native.Mathlib.Omega.{arith}
 use Rattle.bits.proofs.Cases.{is_last}
-use borrow.Author.Rules.{rules}
 use Rattle.calendar_days.proofs.starts.start_of.Goals as goal
 
 pub returns-in-0 : goal.returns-in-0

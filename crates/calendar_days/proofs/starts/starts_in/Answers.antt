@@ -10,7 +10,6 @@ use Rattle.calendar.specs.Month.{month_length}
 use Rattle.bits.proofs.Cases.{is_last}
 use Rattle.calendar_days.specs.Table.{entries, climbs, IsTable}
 use Rattle.calendar_days.proofs.StartTable.{row_at}
-use borrow.Author.Rules.{rules}
 use Rattle.calendar_days.proofs.starts.starts_in.Goals as goal
 
 unfoldable rows : List (List ℕ)
