@@ -2,7 +2,7 @@
 -- The ways through the tests of a list run, and the two ends of a call. Accepted: what number 0 says of the buffers, the
 -- count, and that the image left is accepted again. Refused: nothing is written.
 use Prim.Native.Nat.{ℕ, suc, ◌≤◌, ◌<◌}
-use mathlib.Core.Path.{◌≡◌, refl, sym, ap}
+use mathlib.Core.Path.{◌≡◌, sym, ap}
 use mathlib.Core.Bool.{true, false}
 use mathlib.Core.List.{List}
 use native.Mathlib.Omega.{arith}

@@ -2,7 +2,7 @@
 -- Clocks that come in rows, over any part: inside a byte that comes in or goes out, and outside a transfer. Each leaves the same
 -- bus but for the clocks done and the bits.
 use Prim.Native.Nat.{ℕ, ◌+◌, ◌/◌, ◌%◌, ◌<◌}
-use mathlib.Core.Path.{◌≡◌, refl, sym, ap, ◌∙◌}
+use mathlib.Core.Path.{◌≡◌, refl, ap, ◌∙◌}
 use mathlib.Core.Bool.{Bool, true, cond, ◌&&◌, false≢true}
 use mathlib.Core.List.{List}
 use native.Mathlib.Omega.{arith}
@@ -21,7 +21,7 @@ use Rattle.wire.proofs.Clock.{received_inside, sent_within}
 use Rattle.wire.proofs.Tests.{by_test}
 use Rattle.bus_limits.specs.Limits.{is_idle, power_within}
 use Rattle.bus.specs.Desk.{Desks, part_of}
-use Rattle.bus.specs.Event.{Done, done, done_of, event_on, event_of}
+use Rattle.bus.specs.Event.{done, done_of, event_on, event_of}
 use Rattle.bus.specs.Happening.{Happening, on_wire, happening}
 use Rattle.bus.specs.Code.Outcome.{with_phase}
 use Rattle.bus.specs.declared.Bus.{Bus}

@@ -2,7 +2,7 @@
 -- What the laws of lists (crate `bus_list`) ask of the larger family's images, over the size; and the ways through the
 -- tests of the list run's entry.
 use Prim.Native.Nat.{ℕ, ◌≤◌, ◌<◌}
-use mathlib.Core.Path.{◌≡◌, refl, sym, ap, ◌∙◌}
+use mathlib.Core.Path.{◌≡◌, refl, sym, ap}
 use mathlib.Core.Bool.{true, false}
 use mathlib.Core.List.{List}
 use lib.ListN.{length}

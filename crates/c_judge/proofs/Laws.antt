@@ -15,7 +15,7 @@ use Rattle.capture_table.specs.Table.{is_sound, image_kind, memory_kind, events_
 use Rattle.capture_table.specs.Sections.{first_faulty, entry_of, section_of}
 use Rattle.capture_table.proofs.Sound.{sound_of}
 use Rattle.capture_table.proofs.Finding.{even, inside}
-use Rattle.c_judge.specs.Verdict.{limit, right_answers, compared, verdict_of}
+use Rattle.c_judge.specs.Verdict.{limit, right_answers, verdict_of}
 use Rattle.c_judge.specs.Laws.{NamesTheFirst, SaysAllAgree, FirstFault, NamesTheFault}
 use Rattle.c_judge.specs.declared.Verdict.TheVariants.{Agree, Differs, Faulty, TooLong}
 use Rattle.c_judge.proofs.Replays.{part_length}

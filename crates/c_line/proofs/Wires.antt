@@ -2,13 +2,13 @@
 -- The device is safe on real wires. The two laws hold of the bus machine over any part; an event adds the supplies.
 use Prim.Native.Nat.{ℕ}
 use mathlib.Core.Path.{◌≡◌, refl, sym, ap, ◌∙◌}
-use mathlib.Core.Bool.{Bool, true, false, not, cond, true≢false, false≢true}
+use mathlib.Core.Bool.{Bool, true, false, cond, true≢false, false≢true}
 use mathlib.Core.List.{List}
 use lib.Dec.{eqb, ltb}
 use native.Mathlib.Omega.{arith}
 use borrow.Author.Tests.{not-true}
 use Rattle.wire.specs.Bits.{Place, first, within, last, ack, place_at}
-use Rattle.wire.specs.Clock.{Receiver, received, received_at, Sender, sent, sent_at}
+use Rattle.wire.specs.Clock.{Receiver, received_at, Sender, sent_at}
 use Rattle.wire.specs.Kinds.{slave_byte, high_byte, low_byte, memory_byte, memory_read, pointer_byte, companion_byte, companion_read}
 use Rattle.wire.specs.Machine.{Parts, Out, neither, beside, beyond, clocked, lined}
 use Rattle.wire.specs.Memory.{lent}

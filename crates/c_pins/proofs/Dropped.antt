@@ -1,23 +1,22 @@
 -- SPDX-License-Identifier: Apache-2.0
 -- A Clock that is no byte's eighth changes only where the transfer stands. Ticks and power events do not look at that, and
 -- Start and Stop forget it: so such a Clock, followed by them, leaves nothing.
-use Prim.Native.Nat.{ℕ, ◌≤◌}
-use mathlib.Core.Path.{◌≡◌, refl, sym, ap, subst, ◌∙◌}
-use mathlib.Core.Bool.{Bool, true, false, cond, ◌&&◌}
+use Prim.Native.Nat.{ℕ}
+use mathlib.Core.Path.{◌≡◌, refl, sym, subst}
+use mathlib.Core.Bool.{Bool, true, false}
 use mathlib.Core.List.{List, [], ◌∷◌, ◌++◌}
 use lib.Dec.{eqb, leb}
 use native.Mathlib.Omega.{arith}
 use borrow.Author.Tests.{eqb-true, eqb-false, leb-true}
 use Rattle.wire.specs.Machine.{lined, clocked}
-use Rattle.wire.specs.Memory.{Cells, lent}
+use Rattle.wire.specs.Memory.{lent}
 use Rattle.wire.specs.declared.Phase.{Phase}
 use Rattle.wire.proofs.Tests.{and_split, by_test}
 use Rattle.bus.specs.declared.Power.{Power}
 use Rattle.bus.specs.declared.Power.TheVariants.{On, Backup, Off}
 use Rattle.fm3130_companion.specs.declared.Companion.{Companion}
-use Rattle.fm3130.specs.Chip.{fm3130, Done, done_of}
+use Rattle.fm3130.specs.Chip.{fm3130}
 use Rattle.fm3130.specs.Event.{happening, event_on, event_of}
-use Rattle.fm3130.specs.declared.State.{State}
 use Rattle.c_line.specs.Wires.{is_eighth}
 use Rattle.c_line.proofs.Wires.{clock_keeps}
 use Rattle.pins_levels.specs.Wave.{clock_of, turn_of}

@@ -1,13 +1,13 @@
 -- SPDX-License-Identifier: Apache-2.0
 -- Every word of a session says all of what is known: so the session in words is that of looks and events.
-use Prim.Native.Nat.{ℕ, ◌+◌, ◌*◌, ◌/◌, ◌%◌, ◌<◌, ◌≤◌}
-use mathlib.Core.Path.{◌≡◌, refl, sym, ap, subst, ◌∙◌}
+use Prim.Native.Nat.{ℕ, ◌+◌, ◌*◌, ◌<◌, ◌≤◌}
+use mathlib.Core.Path.{◌≡◌, refl, ap, subst, ◌∙◌}
 use mathlib.Core.Bool.{Bool, true, false, cond, ◌&&◌}
 use mathlib.Core.List.{List, [], ◌∷◌}
 use lib.Dec.{eqb, ltb}
 use lib.ListN.{length}
 use native.Mathlib.Omega.{arith}
-use borrow.Author.Tests.{ltb-true, ltb-false}
+use borrow.Author.Tests.{ltb-false}
 use Rattle.wire.proofs.Tests.{by_test}
 use Rattle.bits.specs.Weight.{has, only}
 use Rattle.fm3130_registers.specs.Map.{AF, AEN, CAL, ALSW}
@@ -34,7 +34,7 @@ use Rattle.pins_levels.proofs.Words.{round_trip}
 use Rattle.c_pins.specs.Chip.{Held, held, fm3130_on}
 use Rattle.c_pins.specs.Entry.{Outcome, outcome, is_idle, on_decoded, settle_of, begin_on, begin_of, eighth_in}
 use Rattle.c_pins.specs.Session.{on_token, step_on, session_on}
-use Rattle.c_pins.specs.Words.{begin_word, look_word, driven_word, hand_word, event_of_word}
+use Rattle.c_pins.specs.Words.{driven_word, event_of_word}
 use Rattle.c_pins.specs.InWords.{Kept, kept, Call, looks, hands, deed_of, deeds_of, due_on, turn_on, turns_on, in_word, Spoken, InWords}
 
 -- an answer has four bits

@@ -2,9 +2,9 @@
 -- The wire's level at a Clock is bit 0 of 01's answer; a level that the device hides does no harm; and nothing is done once
 -- the bus was left.
 use Prim.Native.Nat.{ℕ}
-use mathlib.Core.Path.{◌≡◌, refl, sym, ap, subst, ◌∙◌}
-use mathlib.Core.Bool.{Bool, true, false, cond, not, ◌&&◌}
-use mathlib.Core.List.{List, [], ◌∷◌, ◌++◌}
+use mathlib.Core.Path.{◌≡◌, refl, sym, ap, ◌∙◌}
+use mathlib.Core.Bool.{Bool, true, false, cond, not}
+use mathlib.Core.List.{List, [], ◌∷◌}
 use lib.Dec.{eqb}
 use borrow.Author.Tests.{eqb-true}
 use Rattle.wire.specs.Machine.{lined}
@@ -21,9 +21,9 @@ use Rattle.fm3130.specs.declared.State.{State}
 use Rattle.c_line.specs.Line.{pulls}
 use Rattle.c_line.proofs.Lines.{pulled_line}
 use Rattle.c_line.proofs.Wires.{hidden_level}
-use Rattle.fm3130_list.specs.Run.{Ended, following, answer_to, run_of}
-use Rattle.pins_levels.specs.Look.{stayed, look_of, driven_of, hand_of}
-use Rattle.pins_levels.specs.Session.{Deed, saw, told}
+use Rattle.fm3130_list.specs.Run.{following, answer_to, run_of}
+use Rattle.pins_levels.specs.Look.{stayed, driven_of}
+use Rattle.pins_levels.specs.Session.{saw, told}
 use Rattle.pins_levels.specs.declared.Token.{Token}
 use Rattle.pins_levels.specs.declared.Due.{Due}
 use Rattle.pins_levels.proofs.Steps.{driven_left, look_left, hand_left}

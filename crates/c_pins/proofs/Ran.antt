@@ -1,31 +1,31 @@
 -- SPDX-License-Identifier: Apache-2.0
 -- Events on image and memory, one after the other.
 use Prim.Native.Nat.{ℕ, ◌<◌, ◌≤◌}
-use mathlib.Core.Path.{◌≡◌, refl, sym, ap, subst, ◌∙◌}
-use mathlib.Core.Bool.{Bool, true, false, cond, ◌&&◌, false≢true}
+use mathlib.Core.Path.{◌≡◌, refl, sym, ap, ◌∙◌}
+use mathlib.Core.Bool.{Bool, true, false, false≢true}
 use mathlib.Core.List.{List, [], ◌∷◌, ◌++◌}
-use lib.Dec.{eqb, ltb}
+use lib.Dec.{eqb}
 use lib.ListN.{length, get_or}
 use native.Mathlib.Omega.{arith}
-use borrow.Author.Tests.{le-ltb, lt-ltb, eq-eqb}
+use borrow.Author.Tests.{le-ltb, lt-ltb}
 use Rattle.wire.proofs.Tests.{by_test}
 use Rattle.wire.specs.declared.Side.TheVariants.{Memory, Companion}
 use Rattle.wire.specs.declared.Phase.{Phase}
 use Rattle.wire.specs.declared.Phase.TheVariants.{Idle, Slave, AddressHigh, AddressLow, Pointer, Write, Read}
 use Rattle.place_clock.specs.Code.Clocking.{Accepted}
-use Rattle.fm3130.specs.Chip.{memory_size, Done}
+use Rattle.fm3130.specs.Chip.{memory_size}
 use Rattle.fm3130.specs.Event.{event_of}
 use Rattle.fm3130.specs.Limits.{well_formed}
 use Rattle.fm3130.specs.declared.State.{State}
 use Rattle.fm3130.proofs.Wellformed.{event_ok}
 use Rattle.bus_image.specs.Layout.{transfer_of}
 use Rattle.place_event.specs.Code.Answering.{Answered}
-use Rattle.fm3130_image.specs.Image.{image_of, candidate, decode_of}
+use Rattle.fm3130_image.specs.Image.{image_of, candidate}
 use Rattle.fm3130_image.specs.Code.Accepting.{is_image}
 use Rattle.fm3130_image.specs.declared.Decoded.{Decoded}
 use Rattle.fm3130_image.specs.declared.Decoded.TheVariants.{Good, Bad}
 use Rattle.fm3130_image.proofs.Images.{candidate_of, decode_image, image_length}
-use Rattle.fm3130_image.proofs.Accepts.{image_well, image_written, image_read, image_not_read, image_long}
+use Rattle.fm3130_image.proofs.Accepts.{image_well, image_written, image_not_read}
 use Rattle.c_line.specs.Wires.{is_eighth}
 use Rattle.fm3130_list.specs.Run.{run_of}
 use Rattle.pins_levels.specs.Look.{known}

@@ -2,18 +2,16 @@
 -- A session on image and memory is that of the part, laid down: so what is shown of every session holds of it.
 use Prim.Native.Nat.{ℕ}
 use mathlib.Core.Path.{◌≡◌, refl, sym, ap, subst, ◌∙◌}
-use mathlib.Core.Bool.{Bool, true, false, cond, not, ◌&&◌, false≢true, true≢false}
+use mathlib.Core.Bool.{Bool, true, false, cond, ◌&&◌, false≢true, true≢false}
 use mathlib.Core.List.{List, [], ◌∷◌, ◌++◌, append-nil}
 use lib.Dec.{eqb, ltb}
-use lib.ListN.{length, length-append}
+use lib.ListN.{length}
 use native.Mathlib.Omega.{arith}
 use borrow.Author.Tests.{eq-eqb, ne_eqb, eqb-true, eqb-false}
 use Rattle.wire.proofs.Tests.{by_test}
 use Rattle.fm3130.specs.Chip.{memory_size}
-use Rattle.fm3130.specs.Limits.{well_formed}
 use Rattle.fm3130.specs.declared.State.{State}
 use Rattle.fm3130_image.specs.Image.{image_of, decode_of}
-use Rattle.fm3130_image.specs.declared.Decoded.{Decoded}
 use Rattle.fm3130_image.specs.declared.Decoded.TheVariants.{Good, Bad}
 use Rattle.fm3130_image.proofs.Images.{decode_image, image_decode}
 use Rattle.fm3130_list.specs.Run.{run_of}
@@ -30,7 +28,7 @@ use Rattle.pins_levels.proofs.Runs.{known_some, known_none}
 use Rattle.pins_levels.proofs.Shown.{shown}
 use Rattle.pins_levels.proofs.Steps.{settled_on_lem, settled_left, driven_left}
 use Rattle.c_pins.specs.Chip.{Held, held, fm3130_on}
-use Rattle.c_pins.specs.Entry.{Outcome, outcome, laid, is_idle, on_decoded, settle_of, begin_of, eighth_in}
+use Rattle.c_pins.specs.Entry.{Outcome, outcome, laid, is_idle, settle_of, begin_of}
 use Rattle.c_pins.specs.Session.{on_token, step_on, session_on, Faithfully, OnWires, EveryWaveform, LooksOnly, StillHigh, NotBegun, Refused}
 use Rattle.c_pins.proofs.Dropped.{lawful}
 use Rattle.c_pins.proofs.Line.{stays_left}

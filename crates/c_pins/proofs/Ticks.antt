@@ -6,7 +6,6 @@ use mathlib.Core.Path.{◌≡◌, refl, sym, ap, subst, ◌∙◌}
 use mathlib.Core.Bool.{Bool, true, false, false≢true}
 use mathlib.Core.List.{List}
 use lib.Dec.{eqb}
-use lib.ListN.{length}
 use borrow.Author.Tests.{eqb-true}
 use Rattle.wire.specs.Memory.{Cells, lent}
 use Rattle.wire.specs.declared.Side.TheVariants.{Memory, Companion}
@@ -15,7 +14,6 @@ use Rattle.wire.specs.declared.Phase.TheVariants.{Idle, Slave, AddressHigh, Addr
 use Rattle.bus.specs.declared.Power.{Power}
 use Rattle.bus.specs.declared.Power.TheVariants.{On, Backup, Off}
 use Rattle.fm3130_companion.specs.declared.Companion as C
-use Rattle.fm3130.specs.Chip.{memory_size}
 use Rattle.fm3130.specs.Event.{happening, event_on, event_of}
 use Rattle.fm3130.specs.Limits.{well_formed}
 use Rattle.fm3130.specs.declared.State.{State}
@@ -24,7 +22,7 @@ use Rattle.c_line.specs.Line.{Pulls, pulls}
 use Rattle.c_line.specs.Code.Line.{low_bit, taken_pulls, sent_pulls, pulled_at}
 use Rattle.c_line.specs.Wires.{is_eighth}
 use Rattle.c_line.proofs.Lines.{pulls_by_phase, slave_pulls, high_pulls, low_pulls, pointer_pulls, put_pulls, store_pulls, read_pulls}
-use Rattle.c_pins.specs.Session.{EighthKept, TicksKeepEighth}
+use Rattle.c_pins.specs.Session.{TicksKeepEighth}
 
 taken_eighth : (k : ℕ) (l h f : Bool) → eqb k 7 ≡ true → (taken_pulls k l h f).next ≡ false
 taken_eighth k l h f q = subst (λ (n : ℕ). (taken_pulls n l h f).next ≡ false) (sym (eqb-true k 7 q)) at_seven

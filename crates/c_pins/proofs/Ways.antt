@@ -1,7 +1,7 @@
 -- SPDX-License-Identifier: Apache-2.0
 -- The ways through the functions on image and memory; and the line's number, bit by bit.
 use Prim.Native.Nat.{ℕ, ◌/◌, ◌%◌}
-use mathlib.Core.Path.{◌≡◌, refl, sym, ap, subst, ◌∙◌}
+use mathlib.Core.Path.{◌≡◌, refl, sym, ap, ◌∙◌}
 use mathlib.Core.Bool.{Bool, true, false, cond}
 use mathlib.Core.List.{List}
 use lib.Dec.{eqb}
@@ -10,19 +10,19 @@ use borrow.Author.Tests.{eq-eqb, ne_eqb}
 use Rattle.place_clock.specs.Code.Clocking.{Accepted}
 use Rattle.fm3130.specs.Answer.{answer_byte}
 use Rattle.fm3130.specs.Chip.{memory_size}
-use Rattle.fm3130_image.specs.Image.{image_of, candidate, decode_of}
+use Rattle.fm3130_image.specs.Image.{candidate, decode_of}
 use Rattle.fm3130_image.specs.Code.Accepting.{is_image}
 use Rattle.fm3130_image.proofs.Accepts.{image_read, image_not_read}
 use Rattle.c_line.specs.Line.{pulls_of, told_by}
 use Rattle.c_line.specs.Code.Line.{pulls_with}
 use Rattle.numbers.specs.Numbers.{wrong_memory, wrong_state}
 use Rattle.pins_levels.specs.Look.{left, first_of, asks, events_of}
-use Rattle.pins_levels.specs.Session.{ran, asked}
+use Rattle.pins_levels.specs.Session.{asked}
 use Rattle.pins_levels.specs.declared.Seen.{Seen}
 use Rattle.pins_levels.specs.declared.Token.{Token}
 use Rattle.pins_levels.specs.declared.Due.{Due}
 use Rattle.c_pins.specs.Chip.{Held, held, fm3130_on, RanOn}
-use Rattle.c_pins.specs.Entry.{Outcome, outcome, laid, on_decoded, is_idle, settle_of, begin_of}
+use Rattle.c_pins.specs.Entry.{Outcome, outcome, on_decoded, is_idle, settle_of, begin_of}
 use Rattle.pins_levels.proofs.Facts.{if_true}
 use Rattle.c_pins.proofs.Ran.{ran_held}
 

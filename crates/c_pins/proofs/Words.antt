@@ -1,8 +1,7 @@
 -- SPDX-License-Identifier: Apache-2.0
 -- The entries' words, call by call.
 use Prim.Native.Nat.{ℕ}
-use mathlib.Core.Path.{◌≡◌, refl, sym, ap, ◌∙◌}
-use mathlib.Core.Bool.{Bool}
+use mathlib.Core.Path.{◌≡◌, ap, ◌∙◌}
 use mathlib.Core.List.{List}
 use Rattle.pins_levels.specs.Look.{Readings, stayed, look_of, driven_of, hand_of}
 use Rattle.pins_levels.specs.Packed.{packed, unpacked, levels_of}

@@ -1,7 +1,7 @@
 -- SPDX-License-Identifier: Apache-2.0
 -- What a tick says (02, number 4): the highest field in which the core after the tick differs from the one before; and
 -- nothing exactly where the tick does not count or the core is invalid.
-use mathlib.Core.Path.{◌≡◌, refl, sym, ◌∙◌}
+use mathlib.Core.Path.{◌≡◌, refl, sym}
 use mathlib.Core.Bool.{Bool, true, false, ◌||◌, not, false≢true}
 use Rattle.bits.specs.Weight.{has}
 use Rattle.calendar.specs.Highest.{changed_of}

@@ -13,7 +13,7 @@ use Rattle.law_parts.specs.Events as parts
 use Rattle.law_parts.specs.Demand3 as demand
 use Rattle.law_parts.proofs.Events.{second_heard}
 use Rattle.fm3130_list.specs.Run.{run_of}
-use Rattle.fm3130_list.specs.Held.{Held, Ran, held, list_run}
+use Rattle.fm3130_list.specs.Held.{held, list_run}
 
 pub run_held : (s : State) (m es : List ℕ)
     → parts.after_events memory_size slave_names companion30 (held s m) es ≡ held (run_of s m es).state

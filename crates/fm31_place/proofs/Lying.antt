@@ -1,6 +1,6 @@
 -- SPDX-License-Identifier: Apache-2.0
 -- An event on an image, put together from the companion's part and the bus's, as `fm31` does for a state by value.
-use Prim.Native.Nat.{ℕ, ◌/◌, ◌%◌, ◌≤◌, ◌<◌}
+use Prim.Native.Nat.{ℕ, ◌/◌, ◌%◌, ◌≤◌}
 use mathlib.Core.Path.{◌≡◌, refl, sym, ap, ◌∙◌}
 use mathlib.Core.Bool.{true}
 use mathlib.Core.List.{List}

@@ -7,7 +7,7 @@ use mathlib.Core.Bool.{true, cond, ◌&&◌}
 use mathlib.Core.List.{List}
 use native.Mathlib.Omega.{arith}
 use lib.ListN.{length, get_or, set}
-use Rattle.wire.specs.Bits.{pushed, sent_bit}
+use Rattle.wire.specs.Bits.{sent_bit}
 use Rattle.wire.specs.declared.Phase.{Phase}
 use Rattle.wire.proofs.Tests.{and_join}
 use Rattle.bus.specs.Select.{lone, slave_names_for}

@@ -11,7 +11,7 @@ use lib.ListN.{take, drop}
 use borrow.Author.Tests.{eqb-true, ne_eqb}
 use Rattle.wire.specs.Bits.{Place, first, within, last, ack, place_at, pushed}
 use Rattle.wire.specs.Slave.{opened, slave_names}
-use Rattle.wire.specs.Clock.{Receiver, Sender, kept, received_at, received, more, sent_at, sent}
+use Rattle.wire.specs.Clock.{Receiver, Sender, kept, received_at, more, sent_at}
 use Rattle.wire.specs.Kinds.{slave_byte, high_byte, low_byte, memory_byte, memory_read, pointer_byte, companion_byte, companion_read}
 use Rattle.wire.specs.Memory.{Cells, lent}
 use Rattle.wire.specs.Machine.{start, stop, clock, clocked, lined}

@@ -8,8 +8,8 @@ use Rattle.fm31_counters.specs.Lock.{SerialKept}
 use Rattle.fm31.specs.Run.{run_of}
 use Rattle.fm31.proofs.Lock.{serial_locked}
 use Rattle.law_merging.specs.Merge.{keep_if}
-use Rattle.set_event.specs.Set.{Held, Together, Place, first, second, third, fourth, number_of, at, hears, own_byte}
-use Rattle.set_event.specs.Set.{size_in, select_in, after_own, after_at, after_event, after_events}
+use Rattle.set_event.specs.Set.{Held, number_of, at, hears, own_byte}
+use Rattle.set_event.specs.Set.{size_in, select_in, after_own, after_event, after_events}
 use Rattle.law_set.proofs.Heard.{at_after}
 use Rattle.law_ensemble.specs.Alone.{heard_by, alone, AsAlone, counters_in, SerialLockedIn}
 

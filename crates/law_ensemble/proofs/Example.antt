@@ -12,7 +12,7 @@ use Rattle.wire.specs.Bits.{pushed, sent_bit, place_at}
 use Rattle.wire.specs.Slave.{slave_names, answers, opened}
 use Rattle.wire.specs.Clock.{kept, received_at}
 use Rattle.wire.specs.Memory.{put_byte}
-use Rattle.wire.specs.Machine.{clock, Event, line, tick, clocked, lined}
+use Rattle.wire.specs.Machine.{clock, Event, clocked, lined}
 use Rattle.wire.proofs.Tests.{and_split}
 use Rattle.bus.specs.Select.{slave_names_for}
 use Rattle.bus.specs.Happening.{happening}

@@ -23,7 +23,7 @@ use Rattle.set_event.specs.Set.{Held, at, size_in, select_in, done_in, after_eve
 use Rattle.law_ensemble.specs.Transaction.{line_byte}
 use Rattle.law_ensemble.specs.Stand.{bus_in}
 use Rattle.law_ensemble.specs.Pulls.{OnePulls}
-use Rattle.law_ensemble.proofs.Calm.{Calm, never_both, calm_run}
+use Rattle.law_ensemble.proofs.Calm.{never_both, calm_run}
 use Rattle.law_ensemble.proofs.Stand.{calm_of}
 
 module _ (y z : ℕ) (a b : ℕ) (never : (x : Side) (n : ℕ) → MayName (to x) (slave_names_for a n) → MayName foreign

@@ -25,7 +25,6 @@ use Rattle.bus.specs.declared.Beat.{Beat}
 use Rattle.fm31_counters.specs.Change.{with_counts}
 use Rattle.fm31_counters.specs.Registers.{register_bytes}
 use Rattle.fm31_counters.specs.Part.{stepped_of, load_of, loaded_of}
-use Rattle.fm31_counters.specs.Part as part
 use Rattle.fm31_counters.specs.declared.Counts.{Counts}
 use Rattle.fm31_counters.specs.declared.Counters.{Counters}
 use Rattle.fm31_counters.specs.declared.Registers.{Registers}

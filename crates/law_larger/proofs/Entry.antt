@@ -6,15 +6,14 @@ use mathlib.Core.Path.{◌≡◌, refl, sym, ap, subst, ◌∙◌}
 use mathlib.Core.Bool.{Bool, true, false, cond}
 use mathlib.Core.List.{List, [], ◌∷◌, ◌++◌, append_assoc}
 use native.Mathlib.Omega.{arith}
-use lib.Dec.{leb, eqb}
+use lib.Dec.{eqb}
 use lib.ListN.{length, get_or, drop, length-append}
-use borrow.Author.Tests.{eqb-true, eqb-false, leb-true, leb-false, le-leb}
+use borrow.Author.Tests.{eqb-true, eqb-false}
 use Rattle.wire.proofs.Tests.{by_test, and_split, and_join}
 use Rattle.bits.specs.Weight.{has}
 use Rattle.fm31_counters.specs.Map.{SNL}
 use Rattle.fm31_counters.specs.declared.Serial.{Serial}
 use Rattle.numbers.specs.Numbers.{accepted}
-use Rattle.fm31.specs.Chip.{last_event}
 use Rattle.bus.specs.Select.{lone}
 use Rattle.fm31.specs.Chip.{event_of}
 use Rattle.fm31.specs.Run.{Ended, run_of, answer_to}
@@ -25,11 +24,10 @@ use Rattle.bus_list.specs.Run as list
 use Rattle.bus_list.proofs.Ends as ends
 use Rattle.fm31_run.specs.Code.Run.{all_known}
 use Rattle.c_fm31.specs.Run.{Outcome, outcome_of}
-use Rattle.fm31_image.specs.declared.Decoded.{Decoded}
-use Rattle.fm31_image.specs.declared.Decoded.TheVariants.{Good, Bad}
+use Rattle.fm31_image.specs.declared.Decoded.TheVariants.{Good}
 use Rattle.fm31_image.proofs.Images.{image_decode, decode_image}
 use Rattle.fm31_run.proofs.Runs.{run_ok}
-use Rattle.c_fm31.proofs.Runs.{list31, reads31, outcome_written}
+use Rattle.c_fm31.proofs.Runs.{list31, reads31}
 use Rattle.c_fm31.proofs.Ends.{Accepted, accepted_outcome, accepted_by, run_refused}
 use Rattle.c_fm31.proofs.Pieces.{run_append, answers_length, known_append}
 use Rattle.law_parts.specs.Events.{clock_event}

@@ -3,7 +3,7 @@
 -- fail, or the byte is dropped.
 use Prim.Native.Nat.{ℕ, zero, suc}
 use mathlib.Core.Path.{◌≡◌, refl, ◌∙◌, subst}
-use mathlib.Core.Bool.{Bool, true, false, cond, not}
+use mathlib.Core.Bool.{Bool, true, false, cond}
 use mathlib.Core.List.{List, [], ◌∷◌}
 use native.Mathlib.Omega.{arith}
 use lib.Dec.{eqb}
@@ -20,7 +20,7 @@ use Rattle.fm3130.specs.Event.{Happening, on_wire, beat, lost, gone, returned, e
 use Rattle.fm3130.specs.declared.State.{State}
 use Rattle.fm3130_list.specs.Run.{run_of}
 use Rattle.lamps.specs.History.{Moment, History, moment, happened, left, past_of}
-use Rattle.lamps.specs.Log.{clocks_of, refused_in, clocks_done, due_at, pulls, is_clock, gave_at, gave_what, ninth, mark_from}
+use Rattle.lamps.specs.Log.{clocks_of, refused_in, clocks_done, due_at, pulls, is_clock, gave_at, gave_what, mark_from}
 use Rattle.lamps_eight.specs.Lit.{is_failure, none}
 use Rattle.lamps.specs.Step.{begun, step_of}
 use Rattle.lamps.specs.Statement.{answered_by}

@@ -17,7 +17,7 @@ use Rattle.wire.specs.Slave.{opened, slave_names}
 use Rattle.wire.specs.Clock.{Receiver, Sender, kept, received_at, more, sent_at}
 use Rattle.wire.specs.Kinds.{slave_byte, high_byte, low_byte, memory_byte, memory_read, pointer_byte, companion_byte, companion_read}
 use Rattle.wire.specs.Memory.{Cells, byte_at}
-use Rattle.wire.specs.Machine.{clock, clocked}
+use Rattle.wire.specs.Machine.{clocked}
 use Rattle.wire.specs.declared.Side.TheVariants.{Memory, Companion}
 use Rattle.wire.specs.declared.Named.{Named}
 use Rattle.wire.specs.declared.Named.TheVariants.{Nobody, Reads, Writes}

@@ -2,7 +2,6 @@
 -- Where only a written byte can change a part's protection, it is enough to ask that no written byte does. An event
 -- hands the companion to a clock in three kinds of phase only, and of these an address byte and a read leave the
 -- protection; in all other phases the companion stays as it was.
-use Prim.Native.Nat.{ℕ}
 use mathlib.Core.Path.{◌≡◌, refl}
 use mathlib.Core.Bool.{Bool}
 use mathlib.Core.List.{List, [], ◌∷◌}

@@ -16,7 +16,7 @@ use Rattle.bus.specs.Desk.{Desks, part_of}
 use Rattle.bus.specs.Happening.{happening}
 use Rattle.bus.specs.Event.{Done, done_of, event_on}
 use Rattle.bus.specs.declared.Power.TheVariants.{On}
-use Rattle.law_merging.specs.Merge.{by, events_of, picked}
+use Rattle.law_merging.specs.Merge.{events_of, picked}
 use Rattle.law_merging.specs.Party.{is_memory, is_companion, BusEvent, PartyEvent}
 use Rattle.law_merging.specs.Apart.{run, answers_of}
 use Rattle.law_merging.specs.Demand.{OnlyWrites, IfWritten, WritesSteady, Isolated}

@@ -12,7 +12,7 @@ use Rattle.law_isolation.specs.Demand3.{bytes_of}
 use Rattle.law_isolation.specs.Entry.{bytes_at}
 use Rattle.law_isolation.proofs.Demand3.{demand_three}
 use Rattle.law_isolation.proofs.Entry.{demanded_left}
-use Rattle.law_pins.specs.Waves.{Wave, left_by, Did, Apart, DemandThreeOfWaves}
+use Rattle.law_pins.specs.Waves.{Wave, left_by, Did, DemandThreeOfWaves}
 
 -- what a session that has done a list leaves
 module _ (i m : List ℕ) (s : State) (x : Wave) (es : List ℕ) (d : Did i m s x es) where

@@ -7,7 +7,6 @@ use mathlib.Core.List.{List}
 use lib.ListN.{get_or}
 use Rattle.wire.specs.HighFirst.{sent_bits}
 use Rattle.wire.specs.Whole.{eight, lower}
-use Rattle.wire.specs.Machine as Machine
 use Rattle.wire.specs.declared.Side.{Side}
 use Rattle.wire.specs.declared.Side.TheVariants.{Memory, Companion}
 use Rattle.wire.specs.declared.Phase.TheVariants.{Read}

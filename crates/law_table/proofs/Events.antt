@@ -2,14 +2,14 @@
 -- The events that fall while a transfer goes on, as the machine has them: a Clock, a tick, and a return of power that is
 -- there already.
 use Prim.Native.Nat.{ℕ}
-use mathlib.Core.Path.{◌≡◌, refl}
+use mathlib.Core.Path.{◌≡◌}
 use mathlib.Core.Bool.{Bool, true, false}
 use mathlib.Core.List.{List}
 use Rattle.wire.specs.Memory.{lent}
 use Rattle.wire.specs.Machine.{clocked, lined}
 use Rattle.bus.specs.declared.Power.TheVariants.{On}
 use Rattle.fm3130_companion.specs.Part.{tick_of}
-use Rattle.fm3130.specs.Chip.{fm3130, Done, done_of}
+use Rattle.fm3130.specs.Chip.{fm3130, done_of}
 use Rattle.fm3130.specs.Code.Bus.{with_companion}
 use Rattle.fm3130.specs.Event.{happening, event_on, event_of}
 use Rattle.fm3130.specs.declared.State.{State}

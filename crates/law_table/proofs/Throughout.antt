@@ -4,7 +4,7 @@
 -- does every clock of a written byte but the eighth.
 use Prim.Native.Nat.{ℕ}
 use mathlib.Core.Path.{◌≡◌, refl, ap, ◌∙◌}
-use mathlib.Core.Bool.{Bool, true}
+use mathlib.Core.Bool.{Bool}
 use mathlib.Core.List.{List, [], ◌∷◌, ◌++◌, append_assoc}
 use lib.Dec.{ltb, eqb}
 use borrow.Author.Tests.{ltb-true, ltb-false, eqb-true, eqb-false}
@@ -31,7 +31,6 @@ use Rattle.fm3130.specs.Event.{Happening, on_wire, beat, lost, gone, returned, h
 use Rattle.fm3130.specs.declared.State.{State}
 use Rattle.fm3130_list.specs.Run.{run_of}
 use Rattle.law_table.specs.Stored.{after}
-use Rattle.law_table.specs.Protected.{Protected}
 use Rattle.law_table.specs.Throughout.{BeforeEach, ProtectedKept, Protecting, written, dark}
 use Rattle.law_table.specs.Throughout.{OnlyTheseProtect, ProtectionStays}
 use Rattle.fm3130_list.specs.Held.{held}

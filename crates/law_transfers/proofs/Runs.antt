@@ -1,22 +1,18 @@
 -- SPDX-License-Identifier: Apache-2.0
 -- A list of events leads from a state and a memory to others, with these lines; such steps compose. Clocks on main power do
 -- what the machine's Clocks do, so each kind of whole byte is the machine's law at the FM3130.
-use Prim.Native.Nat.{ℕ, ◌+◌, ◌*◌, ◌%◌, ◌<◌}
-use mathlib.Core.Path.{◌≡◌, refl, sym, ap, ◌∙◌}
+use Prim.Native.Nat.{ℕ, ◌+◌, ◌*◌, ◌%◌}
+use mathlib.Core.Path.{◌≡◌, refl, ap, ◌∙◌}
 use mathlib.Core.Bool.{Bool, true, false, cond}
-use mathlib.Core.List.{List, [], ◌∷◌, ◌++◌, map, map-append}
+use mathlib.Core.List.{List, [], ◌∷◌, ◌++◌, map-append}
 use native.Mathlib.Omega.{arith}
-use lib.Dec.{eqb}
 use borrow.Author.Tests.{eq-eqb, ne_eqb}
-use Rattle.wire.specs.Memory.{lent}
-use Rattle.wire.specs.Machine.{clock, line, clocked, lined, step}
+use Rattle.wire.specs.Machine.{clock, line, lined, step}
 use Rattle.wire.specs.Machine as Machine
 use Rattle.wire.specs.Whole.{Clocked, clocks_on}
-use Rattle.wire.specs.declared.Phase.{Phase}
 use Rattle.wire.specs.declared.Phase.TheVariants.{Slave}
 use Rattle.bus.specs.declared.Power.TheVariants.{On}
 use Rattle.fm3130_companion.specs.Part.{pin_of}
-use Rattle.fm3130_companion.specs.declared.Companion.{Companion}
 use Rattle.fm3130.specs.Chip.{fm3130, Done, done_of}
 use Rattle.fm3130.specs.Event.{happening, event_on, event_of}
 use Rattle.fm3130.specs.declared.State.{State}

@@ -2,25 +2,21 @@
 -- What a read sends: the machine's law of a byte that goes out, at the FM3130, on event and answer bytes.
 use Prim.Native.Nat.{ℕ, ◌+◌, ◌%◌}
 use mathlib.Core.Path.{◌≡◌, refl, sym, ap, subst, ◌∙◌}
-use mathlib.Core.Bool.{Bool}
 use mathlib.Core.List.{List}
 use lib.Dec.{eqb}
-use lib.ListN.{get_or}
 use Rattle.bits.proofs.Cases.{by_cond}
 use Rattle.wire.specs.Memory.{lent}
 use Rattle.wire.specs.Machine as Machine
-use Rattle.wire.specs.Whole.{eight, clocks_on, SendsMemory, SendsCompanion}
+use Rattle.wire.specs.Whole.{eight}
 use Rattle.wire.specs.declared.Side.TheVariants.{Memory, Companion}
 use Rattle.wire.specs.declared.Phase.TheVariants.{Read}
 use Rattle.wire.proofs.Whole.{sends_memory, sends_companion}
 use Rattle.bus.specs.declared.Power.TheVariants.{On}
-use Rattle.fm3130_companion.specs.Registers.{register_at}
-use Rattle.fm3130_registers.specs.Map.{next_address}
-use Rattle.fm3130_companion.specs.Part.{control_read, stepped_of, load_of, loaded_of}
+use Rattle.fm3130_companion.specs.Part.{stepped_of, load_of, loaded_of}
 use Rattle.fm3130.specs.Chip.{fm3130}
 use Rattle.fm3130.specs.declared.State.{State}
 use Rattle.law_transfers.specs.Sends.{SentFromMemory, MemorySends, register_now, SentFromRegisters, RegisterSends}
-use Rattle.law_transfers.proofs.Runs.{live, Leads, clocks_lead}
+use Rattle.law_transfers.proofs.Runs.{live, clocks_lead}
 
 -- a state on main power in a phase, as the machine has it
 powered : (s : State) (m : List ℕ) {p : _} → s.power ≡ On → s.phase ≡ p

@@ -1,10 +1,10 @@
 -- SPDX-License-Identifier: Apache-2.0
 -- A written memory byte in the words of the wire: Start, slave byte, two address bytes and the data byte lead from one state
 -- to the next; the data byte is put or refused by the protection alone.
-use Prim.Native.Nat.{ℕ, ◌+◌, ◌*◌, ◌%◌, ◌<◌}
-use mathlib.Core.Path.{◌≡◌, refl, sym, ap, subst, ◌∙◌}
+use Prim.Native.Nat.{ℕ, ◌+◌, ◌*◌, ◌<◌}
+use mathlib.Core.Path.{◌≡◌, refl, ap, ◌∙◌}
 use mathlib.Core.Bool.{Bool, true, false}
-use mathlib.Core.List.{List, [], ◌∷◌, ◌++◌}
+use mathlib.Core.List.{List, ◌∷◌, ◌++◌}
 use native.Mathlib.Omega.{arith}
 use native.Mathlib.Nat.{mod-lt}
 use lib.ListN.{length, get_or, set}
@@ -12,20 +12,19 @@ use lib.Seq.{get_or-set_same}
 use Rattle.wire.specs.Bits.{pushed, sent_bit}
 use Rattle.wire.specs.Slave.{slave_names, answers, opened}
 use Rattle.wire.specs.Memory.{lent, joined, next, is_protected, refused_byte, put_byte}
-use Rattle.wire.specs.Machine as Machine
 use Rattle.wire.specs.Whole.{nine_bits}
 use Rattle.wire.specs.declared.Side.TheVariants.{Memory}
 use Rattle.wire.specs.declared.Phase.{Phase}
 use Rattle.wire.specs.declared.Phase.TheVariants.{Idle, Slave, AddressHigh, AddressLow, Write}
 use Rattle.wire.proofs.Tests.{by_test}
-use Rattle.wire.proofs.Whole.{made_of, made, slave_answered, high_taken, low_taken, data_taken, data_refused}
+use Rattle.wire.proofs.Whole.{made, slave_answered, high_taken, low_taken, data_taken, data_refused}
 use Rattle.bus.specs.declared.Power.TheVariants.{On}
 use Rattle.fm3130_companion.specs.Part.{guard_of}
 use Rattle.fm3130_companion.specs.declared.Companion.{Companion}
 use Rattle.fm3130.specs.Chip.{memory_size, fm3130}
 use Rattle.fm3130.specs.declared.State.{State}
-use Rattle.wire_clocks.specs.Clocks.{nine_clocks, write_to, lines_of, last_line}
-use Rattle.law_transfers.specs.Written.{address_of, Written, stored, refused, WrittenOnTheWire}
+use Rattle.wire_clocks.specs.Clocks.{nine_clocks, write_to, last_line}
+use Rattle.law_transfers.specs.Written.{address_of, stored, refused, WrittenOnTheWire}
 use Rattle.law_transfers.proofs.Runs.{Leads, leads_then, led, start_leads}
 
 -- on main power

@@ -1,14 +1,13 @@
 -- SPDX-License-Identifier: Apache-2.0
 -- A look that sees nothing new changes nothing.
-use Prim.Native.Nat.{ℕ}
-use mathlib.Core.Path.{◌≡◌, refl, sym, ap, subst, ◌∙◌}
-use mathlib.Core.Bool.{Bool, true, false, cond, beq}
+use mathlib.Core.Path.{◌≡◌, refl, sym, ap, ◌∙◌}
+use mathlib.Core.Bool.{Bool, true, false, beq}
 use native.Mathlib.Omega.{arith}
 use lib.Dec.{eqb}
 use borrow.Author.Tests.{eqb-true, eqb-false}
 use Rattle.pins_levels.proofs.Facts.{by_test, beq_is, if_true, if_false}
 use Rattle.pins_levels.proofs.Steps.{look_left, look_on, look_number}
-use Rattle.pins_levels.specs.Look.{left, late, stayed, first_of, fallen, risen, turned, seen_by, look_of}
+use Rattle.pins_levels.specs.Look.{left, late, stayed, first_of, fallen, seen_by, look_of}
 use Rattle.pins_levels.specs.Session.{leaves, left_by, SeenAgain}
 use Rattle.pins_levels.specs.declared.Seen.{Seen}
 use Rattle.pins_levels.specs.declared.Seen.TheVariants.{Low, Fell, High}

@@ -1,6 +1,6 @@
 -- SPDX-License-Identifier: Apache-2.0
-use mathlib.Core.Path.{◌≡◌, refl, sym}
-use mathlib.Core.Bool.{Bool, true, false, cond, ◌&&◌, beq, true≢false, false≢true}
+use mathlib.Core.Path.{◌≡◌, refl}
+use mathlib.Core.Bool.{Bool, true, false, cond, ◌&&◌, beq, false≢true}
 
 pub is_beq : (b : Bool) → b ≡ beq true b
 is_beq true = refl

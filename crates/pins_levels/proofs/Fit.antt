@@ -1,13 +1,12 @@
 -- SPDX-License-Identifier: Apache-2.0
 -- What a session makes of a token fits the word, whatever is seen and handed in.
 use Prim.Native.Nat.{ℕ, ◌<◌}
-use mathlib.Core.Path.{◌≡◌}
 use mathlib.Core.Bool.{Bool, true, false, cond, beq}
 use lib.Dec.{eqb, ltb}
 use native.Mathlib.Omega.{arith}
 use Rattle.pins_levels.specs.Wave.{clock_of, turn_of}
 use Rattle.pins_levels.specs.Look.{Readings, was_high, none, late, unknown, with_levels, left, due_of, stayed, first_of}
-use Rattle.pins_levels.specs.Look.{fallen, risen, turned, seen_by, look_of, driven_of, asks, hung, outlasted, handed_to, hand_of}
+use Rattle.pins_levels.specs.Look.{fallen, seen_by, look_of, driven_of, asks, hung, outlasted, handed_to, hand_of}
 use Rattle.pins_levels.specs.Packed.{Small, Fits}
 use Rattle.pins_levels.specs.declared.Seen.{Seen}
 use Rattle.pins_levels.specs.declared.Seen.TheVariants.{Low, Fell, High}

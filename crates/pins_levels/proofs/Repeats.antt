@@ -1,10 +1,10 @@
 -- SPDX-License-Identifier: Apache-2.0
 -- A look that sees what the one before it saw changes nothing of what the looks spell.
 use Prim.Native.Nat.{ℕ}
-use mathlib.Core.Path.{◌≡◌, refl, sym, ap, ◌∙◌}
+use mathlib.Core.Path.{◌≡◌, refl, ap, ◌∙◌}
 use mathlib.Core.Bool.{Bool, true, false, cond, ◌&&◌, beq, false≢true}
 use mathlib.Core.List.{List, [], ◌∷◌, ◌++◌, append-nil}
-use Rattle.pins_levels.specs.Wave.{steady, clock_of, turn_of, end_of, happened, spelt, is_settled, Repeated}
+use Rattle.pins_levels.specs.Wave.{steady, clock_of, end_of, happened, spelt, is_settled, Repeated}
 use Rattle.pins_levels.specs.declared.Seen.{Seen}
 use Rattle.pins_levels.specs.declared.Seen.TheVariants.{Low, Fell, High}
 

@@ -1,15 +1,15 @@
 -- SPDX-License-Identifier: Apache-2.0
 -- Lists of events on any part, and lists that are merged.
 use Prim.Native.Nat.{ℕ}
-use mathlib.Core.Path.{◌≡◌, refl, sym, ap, subst, ◌∙◌}
-use mathlib.Core.Bool.{Bool, true, false, cond, ◌&&◌, and-true}
-use mathlib.Core.List.{List, [], ◌∷◌, ◌++◌, append_assoc, append-nil}
+use mathlib.Core.Path.{◌≡◌, refl}
+use mathlib.Core.Bool.{true, false}
+use mathlib.Core.List.{List, [], ◌∷◌, ◌++◌}
 use lib.Dec.{ltb}
 use borrow.Author.Tests.{lt-ltb, le-ltb, ltb-true, ltb-false}
 use native.Mathlib.Omega.{arith}
 use Rattle.pins_levels.proofs.Facts.{and_both}
 use Rattle.pins_levels.specs.Look.{known}
-use Rattle.pins_levels.specs.Session.{Part, ran, is_told, all_told, Stood, stood, asked, settled_on, Merged, neither, on_bus, handed}
+use Rattle.pins_levels.specs.Session.{Part, ran, is_told, all_told, stood, asked, settled_on, Merged, neither, on_bus, handed}
 use Rattle.pins_levels.specs.declared.Token.{Token}
 
 module _ (P : Part) where

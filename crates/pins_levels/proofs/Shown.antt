@@ -2,7 +2,7 @@
 -- What is shown of every session.
 use Prim.Native.Nat.{ℕ}
 use mathlib.Core.Path.{◌≡◌, refl, sym, ap, subst, ◌∙◌}
-use mathlib.Core.Bool.{Bool, true, false, cond, ◌&&◌, beq, true≢false, false≢true}
+use mathlib.Core.Bool.{Bool, true, false, cond, beq, true≢false, false≢true}
 use mathlib.Core.List.{List, [], ◌∷◌, ◌++◌, append-nil}
 use lib.Dec.{eqb, ltb}
 use lib.ListN.{length, length-append}
@@ -10,10 +10,10 @@ use borrow.Author.Tests.{eqb-true, eqb-false, ne_eqb}
 use native.Mathlib.Omega.{arith}
 use Rattle.pins_levels.proofs.Facts.{by_test, if_true, if_false}
 use Rattle.pins_levels.proofs.Runs.{merge_append, all_handed}
-use Rattle.pins_levels.proofs.Steps.{SawOn, saw_on, ToldOn, told_on, driven_same, driven_time, driven_left, look_left, look_on, settled_on_lem, settled_left, settled_number}
+use Rattle.pins_levels.proofs.Steps.{saw_on, told_on, driven_same, driven_time, driven_left, look_left, look_on, settled_left, settled_number}
 use Rattle.pins_levels.proofs.Stands.{standing, UpTo, AtLow, AtHigh, is_open, is_shut, is_taken, Stands, stands_saw, stands_told, known_clock, known_turn, none_right}
-use Rattle.pins_levels.specs.Wave.{steady, clock_of, turn_of, end_of, happened, spelt}
-use Rattle.pins_levels.specs.Look.{Readings, was_high, none, left, late, stayed, first_of, seen_by, fallen, risen, turned, look_of, driven_of, handed_to, hand_of, hung, outlasted, known, events_of}
+use Rattle.pins_levels.specs.Wave.{steady, clock_of, turn_of, happened, spelt}
+use Rattle.pins_levels.specs.Look.{Readings, was_high, none, left, late, stayed, first_of, seen_by, fallen, risen, turned, look_of, driven_of, handed_to, hand_of, outlasted, known, events_of}
 use Rattle.pins_levels.specs.Session.{Part, ran, Lawful, Stood, stood, asked, settled_on, settled, Merged, neither, on_bus, handed}
 use Rattle.pins_levels.specs.Session.{Deed, saw, told, seen_in, handed_in, begun, step, session, under_way, Account}
 use Rattle.pins_levels.specs.Session.{Faithful, Driven, Opens, Early, AtFall, AtTurn, Still, StillTold, InTimeFirst, InTimeSeen, InTime, InTimeTold, Answers, Stays, LetGo, Shown}

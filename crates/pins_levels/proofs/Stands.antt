@@ -2,7 +2,7 @@
 -- Where a session stands, by what the last look saw; and that every deed keeps it.
 use Prim.Native.Nat.{ℕ, ◌≤◌}
 use mathlib.Core.Path.{◌≡◌, refl, sym, ap, subst, ◌∙◌}
-use mathlib.Core.Bool.{Bool, true, false, cond, ◌&&◌, beq, true≢false, false≢true}
+use mathlib.Core.Bool.{Bool, true, false, cond, ◌&&◌, beq, true≢false}
 use mathlib.Core.List.{List, [], ◌∷◌, ◌++◌, append_assoc, append-nil}
 use native.Mathlib.Omega.{arith}
 use lib.Dec.{ltb, leb}
@@ -10,11 +10,11 @@ use lib.ListN.{length, length-append}
 use borrow.Author.Tests.{le-ltb, leb-true}
 use Rattle.pins_levels.proofs.Facts.{by_test, and_both, beq_is, if_true, if_false}
 use Rattle.pins_levels.proofs.Runs.{ran_append, settled_some, all_told_append, merge_append, all_handed, known_some, known_none}
-use Rattle.pins_levels.proofs.Steps.{SawOn, saw_on, ToldOn, told_on}
+use Rattle.pins_levels.proofs.Steps.{SawOn, ToldOn}
 use Rattle.pins_levels.specs.Wave.{steady, clock_of, turn_of, end_of, happened, spelt}
 use Rattle.pins_levels.specs.Look.{Readings, none, seen_by, fallen, turned, handed_to, known, events_of}
-use Rattle.pins_levels.specs.Session.{Part, ran, is_told, all_told, Lawful, Stood, stood, asked, settled_on, Merged, neither, on_bus, handed}
-use Rattle.pins_levels.specs.Session.{Deed, saw, told, step}
+use Rattle.pins_levels.specs.Session.{Part, ran, is_told, all_told, Lawful, Stood, stood, settled_on, Merged, neither, on_bus}
+use Rattle.pins_levels.specs.Session.{saw, told, step}
 use Rattle.pins_levels.specs.declared.Seen.{Seen}
 use Rattle.pins_levels.specs.declared.Seen.TheVariants.{Low, Fell, High}
 use Rattle.pins_levels.specs.declared.Token.{Token}

@@ -1,15 +1,15 @@
 -- SPDX-License-Identifier: Apache-2.0
 -- A deed after which the device is still on the bus: nothing was late, and no test stands in the way of what it does.
-use Prim.Native.Nat.{ℕ, ◌≤◌}
-use mathlib.Core.Path.{◌≡◌, refl, sym, ap, subst, ◌∙◌}
+use Prim.Native.Nat.{ℕ}
+use mathlib.Core.Path.{◌≡◌, refl, sym, ap, ◌∙◌}
 use mathlib.Core.Bool.{Bool, true, false, cond, beq, true≢false}
-use mathlib.Core.List.{List, [], ◌∷◌, ◌++◌}
-use lib.Dec.{eqb, ltb, leb}
+use mathlib.Core.List.{List, [], ◌∷◌}
+use lib.Dec.{eqb, ltb}
 use native.Mathlib.Omega.{arith}
-use borrow.Author.Tests.{eq-eqb, ne_eqb, eqb-true, eqb-false, ltb-true, ltb-false, lt-ltb, le-ltb, le-leb}
+use borrow.Author.Tests.{eq-eqb, ne_eqb, eqb-true, eqb-false, ltb-false, le-leb}
 use Rattle.pins_levels.proofs.Facts.{by_test}
 use Rattle.pins_levels.specs.Look.{Readings, was_high, left, late, unknown, stayed, seen_by, look_of, driven_of, handed_to, hand_of, events_of}
-use Rattle.pins_levels.specs.Session.{Part, is_told, Stood, stood, asked, settled_on, settled, Deed, saw, told, step}
+use Rattle.pins_levels.specs.Session.{Part, is_told, Stood, stood, settled_on, settled, saw, told, step}
 use Rattle.pins_levels.specs.declared.Seen.{Seen}
 use Rattle.pins_levels.specs.declared.Token.{Token}
 use Rattle.pins_levels.specs.declared.Due.{Due}

@@ -1,12 +1,11 @@
 -- SPDX-License-Identifier: Apache-2.0
 -- A word says all of a token and of what is due: each bit by the rest of a division, each byte too.
 use Prim.Native.Nat.{ℕ, ◌+◌, ◌*◌, ◌/◌, ◌%◌, ◌≤◌, ◌<◌}
-use mathlib.Core.Path.{◌≡◌, refl, sym, ap, ◌∙◌}
+use mathlib.Core.Path.{◌≡◌, refl, ap}
 use mathlib.Core.Bool.{Bool, true, false, cond}
 use lib.Dec.{eqb}
 use native.Mathlib.Omega.{arith}
 use Rattle.pins_levels.specs.Packed.{bits_of, four_bits, event_in, packed, unpacked, Fits, RoundTrip}
-use Rattle.pins_levels.specs.declared.Token.{Token}
 use Rattle.pins_levels.specs.declared.Due.{Due}
 
 -- a bit is 0 or 1; its weight is so many of it

@@ -8,7 +8,7 @@ use Rattle.bus_list.specs.Run as list
 use Rattle.bus_list.proofs.Runs as laws
 use Rattle.fm31.specs.Step.{answer_byte}
 use Rattle.set_event.specs.Set.{Together, after_event, line_to, after_events, lines_to}
-use Rattle.set_run.specs.Run.{Ended, following, after, run_of}
+use Rattle.set_run.specs.Run.{following, after, run_of}
 
 pub run_together : (t : Together) (es : List ℕ) → (run_of t es).state ≡ after_events t es
 unfolding run_of list.run_of

@@ -1,15 +1,13 @@
 -- SPDX-License-Identifier: Apache-2.0
 -- What a clock leaves of the memory's bytes: only the eighth clock of a data byte changes them, and only at the address. By
 -- cases on where the byte stands. Over the memory's size.
-use Prim.Native.Nat.{ℕ, ◌+◌, ◌≤◌, ◌<◌}
-use mathlib.Core.Path.{◌≡◌, refl, ap, ◌∙◌}
-use mathlib.Core.Bool.{Bool, true, false, cond}
+use Prim.Native.Nat.{ℕ}
+use mathlib.Core.Path.{◌≡◌, refl}
+use mathlib.Core.Bool.{Bool, true, false}
 use mathlib.Core.List.{List}
-use native.Mathlib.Nat.{mod-lt}
-use lib.ListN.{length, set, length-set}
-use Rattle.wire.specs.Bits.{Place, first, within, last, ack, place_at, pushed}
-use Rattle.wire.specs.Clock.{Taken, received_at, received, sent_at, sent}
-use Rattle.wire.specs.Kinds.{low_byte, memory_byte, memory_read}
+use Rattle.wire.specs.Bits.{Place, first, within, last, ack, place_at}
+use Rattle.wire.specs.Clock.{received_at, received, sent_at, sent}
+use Rattle.wire.specs.Kinds.{low_byte, memory_read}
 use Rattle.wire.specs.Memory.{Cells, lent, next, is_protected, pointed, refused_byte, put_byte, byte_at, stepped_on}
 use Rattle.wire.proofs.Tests.{by_test}
 

@@ -5,10 +5,10 @@ use Prim.Native.Nat.{ℕ, ◌+◌, ◌≤◌, ◌<◌}
 use mathlib.Core.Path.{◌≡◌, refl}
 use mathlib.Core.Bool.{Bool, true, false, cond, ◌&&◌}
 use native.Mathlib.Omega.{arith}
-use lib.Dec.{eqb, ltb}
+use lib.Dec.{eqb}
 use borrow.Author.Tests.{lt-ltb, le-ltb, ne_eqb}
-use Rattle.wire.specs.Bits.{Place, first, within, last, ack, place_at, pushed, sent_bit}
-use Rattle.wire.specs.Clock.{Half, half, Receiver, received, received_at, kept, Sender, sent, sent_at, more}
+use Rattle.wire.specs.Bits.{first, within, ack, place_at, pushed, sent_bit}
+use Rattle.wire.specs.Clock.{half, Receiver, received, received_at, kept, Sender, sent, sent_at, more}
 
 -- where a byte stands
 place_within : (k : ℕ) → (k ≡ 0 → ⊥) → k < 7 → place_at k ≡ within

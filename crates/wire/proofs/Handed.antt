@@ -2,8 +2,8 @@
 -- What `nine::receive` and `nine::send` are handed of a kind of byte is all that its clocks need: their phase and line are
 -- those of the kind. What the byte serves is touched at the eighth clock alone.
 use Prim.Native.Nat.{ℕ, ◌+◌, ◌≤◌, ◌<◌}
-use mathlib.Core.Path.{◌≡◌, refl, sym}
-use mathlib.Core.Bool.{Bool, true, false, cond, ◌&&◌}
+use mathlib.Core.Path.{◌≡◌, sym}
+use mathlib.Core.Bool.{Bool, cond, ◌&&◌}
 use native.Mathlib.Omega.{arith}
 use lib.Dec.{eqb, ltb}
 use borrow.Author.Tests.{lt-ltb, ltb-true, ltb-false, eqb-true, eqb-false}
@@ -14,7 +14,6 @@ use Rattle.wire.specs.Code.Outcome.{turned_of, incoming, outgoing, with_address,
 use Rattle.wire.specs.declared.Side.{Side}
 use Rattle.wire.specs.declared.Phase.TheVariants.{Read}
 use Rattle.wire.specs.declared.Turned.{Turned}
-use Rattle.wire.specs.declared.Moved.{Moved}
 use Rattle.wire.proofs.Tests.{by_test}
 use Rattle.wire.proofs.Clock.{received_inside, received_last, received_ack, sent_first, sent_within, sent_last, sent_ack}
 

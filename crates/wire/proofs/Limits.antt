@@ -3,7 +3,7 @@
 -- then one record of small facts. Over whom a slave byte names and which companion addresses are legal.
 --   received_keeps, sent_keeps      one clock of a byte
 --   slave_keeps, high_keeps, low_keeps, pointer_keeps, data_keeps, read_keeps   the kinds of byte
-use Prim.Native.Nat.{ℕ, ◌+◌, ◌*◌, ◌%◌, ◌^◌, ◌≤◌, ◌<◌}
+use Prim.Native.Nat.{ℕ, ◌+◌, ◌^◌, ◌≤◌, ◌<◌}
 use mathlib.Core.Path.{◌≡◌, refl}
 use mathlib.Core.Bool.{Bool, true, false, cond, ◌&&◌}
 use native.Mathlib.Omega.{arith}
@@ -21,7 +21,7 @@ use Rattle.wire.specs.declared.Side.TheVariants.{Memory, Companion}
 use Rattle.wire.specs.declared.Named.{Named}
 use Rattle.wire.specs.declared.Named.TheVariants.{Nobody, Reads, Writes}
 use Rattle.wire.specs.declared.Phase.{Phase}
-use Rattle.wire.specs.declared.Phase.TheVariants.{Idle, Slave, AddressHigh, AddressLow, Pointer, Write, Read}
+use Rattle.wire.specs.declared.Phase.TheVariants.{Write, Read}
 use Rattle.wire.proofs.Tests.{and_split, and_join, by_test}
 use Rattle.wire.proofs.Clock.{received_inside, received_last, received_ack, sent_first, sent_within, sent_last, sent_ack}
 

@@ -1,6 +1,5 @@
 -- SPDX-License-Identifier: Apache-2.0
 -- The ways through the tests of the number and of the supplies.
-use borrow.Author.Rules.{rules}
 use borrow.Author.Tests.{eq-eqb, ne_eqb}
 use Rattle.bus_accept.specs.Tests.{bus_tested}
 use Rattle.bus_accept.proofs.bus_within.Goals as goal

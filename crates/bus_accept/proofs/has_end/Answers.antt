@@ -2,7 +2,6 @@
 -- Two bytes alone, and the bytes of each word, are those of every image.
 use Prim.Native.Nat.{◌<◌}
 use native.Mathlib.Omega.{arith}
-use borrow.Author.Rules.{rules}
 use Rattle.bus_accept.proofs.Words.{end_tested}
 use Rattle.bus_accept.proofs.has_end.Goals as goal
 

@@ -1,6 +1,5 @@
 -- SPDX-License-Identifier: Apache-2.0
 -- The ways through the tests of the clocks and of the number.
-use borrow.Author.Rules.{rules}
 use borrow.Author.Tests.{lt-ltb, le-ltb, eq-eqb, ne_eqb}
 use Rattle.bus_accept.specs.Tests.{incoming_within}
 use Rattle.bus_accept.proofs.incoming_within.Goals as goal

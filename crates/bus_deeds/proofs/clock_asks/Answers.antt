@@ -1,6 +1,5 @@
 -- SPDX-License-Identifier: Apache-2.0
 -- What a Clock asks, in each phase.
-use borrow.Author.Rules.{rules}
 use Rattle.bus_deeds.specs.Serve.{clock_deed}
 use Rattle.bus_deeds.proofs.clock_asks.Goals as goal
 

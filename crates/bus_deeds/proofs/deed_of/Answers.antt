@@ -1,6 +1,5 @@
 -- SPDX-License-Identifier: Apache-2.0
 -- What an event asks, by the supplies that are present.
-use borrow.Author.Rules.{rules}
 use Rattle.bus_deeds.specs.Serve.{deed_of}
 use Rattle.bus_deeds.proofs.deed_of.Goals as goal
 

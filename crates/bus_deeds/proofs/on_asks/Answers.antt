@@ -1,7 +1,6 @@
 -- SPDX-License-Identifier: Apache-2.0
 -- What each event asks while main power is present.
 use Prim.Native.Nat.{zero-le}
-use borrow.Author.Rules.{rules}
 use Rattle.bits.proofs.Cases.{is_last}
 use Rattle.bus.specs.Happening.{happening}
 use Rattle.bus_deeds.specs.Serve.{deed_of}

@@ -1,7 +1,6 @@
 -- SPDX-License-Identifier: Apache-2.0
 -- A data byte for the companion: what its eighth clock asks, and the others.
 use mathlib.Core.Path.{sym}
-use borrow.Author.Rules.{rules}
 use Rattle.wire.specs.Bits.{place_at}
 use Rattle.bus_deeds.specs.Serve.{at_last}
 use Rattle.bus_deeds.proofs.Asked.{last_none}

@@ -1,6 +1,5 @@
 -- SPDX-License-Identifier: Apache-2.0
 -- The limits of a bus: the address, the phase, and the supply.
-use borrow.Author.Rules.{rules}
 use Rattle.bus_limits.specs.Limits.{bus_within}
 use Rattle.bus_limits.proofs.bus_within.Goals as goal
 

@@ -1,6 +1,5 @@
 -- SPDX-License-Identifier: Apache-2.0
 -- The limits of each phase, at the phase that the match found.
-use borrow.Author.Rules.{rules}
 use Rattle.wire.specs.Limits.{phase_within}
 use Rattle.bus_limits.proofs.phase_within.Goals as goal
 

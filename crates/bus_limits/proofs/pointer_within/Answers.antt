@@ -2,7 +2,6 @@
 -- A companion address byte: its bits fit, and a whole one is a register's.
 use mathlib.Core.Bool.{and-true}
 use borrow.Author.Tests.{ne_eqb}
-use borrow.Author.Rules.{rules}
 use Rattle.wire.specs.Limits.{phase_within}
 use Rattle.bus_limits.proofs.pointer_within.Goals as goal
 

@@ -1,6 +1,5 @@
 -- SPDX-License-Identifier: Apache-2.0
 -- A transfer exists only while main power is present.
-use borrow.Author.Rules.{rules}
 use Rattle.bus_limits.specs.Limits.{power_within}
 use Rattle.bus_limits.proofs.power_within.Goals as goal
 

@@ -2,7 +2,6 @@
 -- A slave byte: its bits fit, and a whole one names somebody.
 use mathlib.Core.Bool.{and-true}
 use borrow.Author.Tests.{ne_eqb}
-use borrow.Author.Rules.{rules}
 use Rattle.wire.specs.Limits.{phase_within}
 use Rattle.bus_limits.proofs.slave_within.Goals as goal
 

@@ -1,11 +1,8 @@
 -- SPDX-License-Identifier: Apache-2.0
 -- The loop's invariant: what was seen of the events, and the rest, decide the whole. The measure is what is left.
-use Prim.Native.Nat.{◌≤◌, ◌-◌}
-use mathlib.Core.Path.{◌≡◌, sym, ◌∙◌}
-use mathlib.Core.Bool.{◌&&◌}
-use lib.ListN.{length, drop}
+use Prim.Native.Nat.{◌-◌}
+use mathlib.Core.Path.{sym, ◌∙◌}
 use borrow.Author.Rules.{rules}
-use Rattle.bus_list.specs.Run.{all_known}
 use Rattle.bus_list.proofs.Runs.{known_more, known_end}
 use Rattle.bus_list.proofs.all_known.Goals as goal
 

@@ -1,13 +1,11 @@
 -- SPDX-License-Identifier: Apache-2.0
 -- The loop's invariant: the answers are those to so many events, all of them Clocks. The measure is what is left of the
 -- events.
-use Prim.Native.Nat.{ℕ, ◌-◌, ◌≤◌, ◌<◌}
-use mathlib.Core.Path.{◌≡◌, refl, sym, ap, ◌∙◌}
+use Prim.Native.Nat.{◌-◌}
+use mathlib.Core.Path.{refl}
 use native.Mathlib.Omega.{arith}
-use lib.ListN.{length}
 use borrow.Author.Rules.{rules}
-use Rattle.bus_rows.specs.Row.{heard_after}
-use Rattle.bus_rows.proofs.Rows.{Clocks, further, clocks_none, clocks_more, heard_none, heard_more}
+use Rattle.bus_rows.proofs.Rows.{further, clocks_none, clocks_more, heard_none, heard_more}
 use Rattle.bus_rows.proofs.idle_row.Goals as goal
 
 pub loop-i-init : goal.loop-i-init

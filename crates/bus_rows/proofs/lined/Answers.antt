@@ -2,7 +2,6 @@
 -- The line is bit 0.
 use mathlib.Core.Path.{refl}
 use native.Mathlib.Omega.{arith}
-use borrow.Author.Rules.{rules}
 use Rattle.bus_rows.proofs.lined.Goals as goal
 
 pub returns-then-line : goal.returns-then-line

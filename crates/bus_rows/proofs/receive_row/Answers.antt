@@ -1,13 +1,12 @@
 -- SPDX-License-Identifier: Apache-2.0
 -- The loop's invariant: the image is as it was; clocks, bits and answers are those after so many events, all of them Clocks.
 -- The measure is what is left of the row.
-use Prim.Native.Nat.{ℕ, ◌+◌, ◌-◌, ◌≤◌, ◌<◌}
-use mathlib.Core.Path.{◌≡◌, refl, sym, ap, ◌∙◌}
+use Prim.Native.Nat.{◌-◌}
+use mathlib.Core.Path.{refl, ap, ◌∙◌}
 use native.Mathlib.Omega.{arith}
-use lib.ListN.{length, get_or, set}
+use lib.ListN.{length, set}
 use borrow.Author.Rules.{rules}
-use Rattle.bus_rows.specs.Row.{bits_after, heard_after}
-use Rattle.bus_rows.proofs.Rows.{Clocks, settled_length, further, clocks_none, clocks_more}
+use Rattle.bus_rows.proofs.Rows.{further, clocks_none, clocks_more}
 use Rattle.bus_rows.proofs.Rows.{bits_none, bits_more, heard_none, heard_more}
 use Rattle.bus_rows.proofs.receive_row.Goals as goal
 

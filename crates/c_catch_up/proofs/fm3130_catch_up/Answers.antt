@@ -1,15 +1,12 @@
 -- SPDX-License-Identifier: Apache-2.0
 -- The tests in the order of the numbers, each way by its law in Ways.
-use mathlib.Core.Path.{◌≡◌, sym, ◌∙◌}
+use mathlib.Core.Path.{sym, ◌∙◌}
 use mathlib.Core.Bool.{true}
 use native.Mathlib.Omega.{arith}
-use borrow.Author.Tests.{not-true, not-false}
 use Rattle.fm3130_image.specs.Code.Accepting.{is_image}
 use Rattle.fm3130_image.proofs.Accepts.{image_read, image_not_read, image_long}
 use Rattle.c_catch_up.proofs.Ways.{catch_up_wrong_image, catch_up_too_many, catch_up_none, catch_up_dark}
 use Rattle.c_catch_up.proofs.Ways.{catch_up_stopped, catch_up_counted}
-use borrow.Author.Rules.{rules}
--- the image was accepted
 use Rattle.c_catch_up.proofs.fm3130_catch_up.Goals as goal
 
 pub returns-then-not-is_image : goal.returns-then-not-is_image

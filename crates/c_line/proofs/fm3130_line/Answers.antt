@@ -1,10 +1,9 @@
 -- SPDX-License-Identifier: Apache-2.0
 -- The ways through the tests of the memory and of the image.
 use mathlib.Core.Path.{sym, ◌∙◌}
-use borrow.Author.Tests.{eq-eqb, ne_eqb, not-true, not-false}
+use borrow.Author.Tests.{eq-eqb, ne_eqb}
 use Rattle.c_line.specs.Line.{line_of}
 use Rattle.fm3130_image.proofs.Accepts.{image_read, image_not_read}
-use borrow.Author.Rules.{rules}
 use Rattle.c_line.proofs.fm3130_line.Goals as goal
 
 pub returns-then-memory-ne-MEMORY : goal.returns-then-memory-ne-MEMORY

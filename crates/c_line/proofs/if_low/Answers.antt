@@ -2,7 +2,6 @@
 -- The bit, or nothing.
 use mathlib.Core.Path.{sym, ◌∙◌}
 use native.Mathlib.Omega.{arith}
-use borrow.Author.Rules.{rules}
 use Rattle.c_line.proofs.if_low.Goals as goal
 
 pub returns-then-sent_bit : goal.returns-then-sent_bit

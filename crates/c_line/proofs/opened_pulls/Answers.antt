@@ -6,7 +6,6 @@ use Rattle.c_line.specs.Code.Line.{low_bit, opened_low}
 use Rattle.fm3130_image.proofs.Accepts.{image_long}
 use Rattle.fm3130_image.proofs.Lies.{image_places}
 use Rattle.c_line.proofs.ByNumber.{not_opened, told_opened, fetched_at}
-use borrow.Author.Rules.{rules}
 use Rattle.c_line.proofs.opened_pulls.Goals as goal
 
 pub fetched-requires : goal.fetched-requires

@@ -4,7 +4,6 @@ use native.Mathlib.Omega.{arith}
 use Rattle.fm3130_image.proofs.Accepts.{image_long}
 use Rattle.fm3130_image.proofs.Lies.{image_places}
 use Rattle.c_line.proofs.ByNumber.{told_ninth, told_eighth, told_first, told_within, fetched_at}
-use borrow.Author.Rules.{rules}
 use Rattle.c_line.proofs.sent_pulls.Goals as goal
 
 pub fetched-requires : goal.fetched-requires

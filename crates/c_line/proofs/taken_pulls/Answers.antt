@@ -5,7 +5,6 @@ use borrow.Author.Tests.{ne_eqb}
 use Rattle.c_line.specs.Code.Line.{is_taken}
 use Rattle.c_line.proofs.Lines.{last_bit}
 use Rattle.c_line.proofs.ByNumber.{answered_low, answered_high}
-use borrow.Author.Rules.{rules}
 use Rattle.c_line.proofs.taken_pulls.Goals as goal
 
 pub returns-in-1 : goal.returns-in-1

@@ -6,7 +6,6 @@ use mathlib.Core.Path.{◌≡◌, sym, ap, ◌∙◌}
 use native.Mathlib.Omega.{arith}
 use lib.ListN.{length}
 use borrow.Author.Rules.{rules}
-use Rattle.fm3130.specs.declared.State.{State}
 use Rattle.fm3130_image.specs.declared.Decoded.TheVariants.{Good}
 use Rattle.fm3130_image.specs.Image.{image_of, decode_of}
 use Rattle.fm3130_image.proofs.Images.{settled_decode, decoded_length}
@@ -14,7 +13,6 @@ use Rattle.c_mend.specs.Changes.{changed_count}
 use Rattle.c_mend.specs.Mend.{mended_state, time_bytes, changes_in}
 use Rattle.c_mend.proofs.Listing.{count_le, three_bytes_each, room_of_count}
 use Rattle.c_mend.proofs.Ways.{mend_wrong_image, mend_short, mend_done, counted_by_lem, listed_by}
--- where a state was read: the image is that state's
 use Rattle.c_mend.proofs.fm3130_mend.Goals as goal
 
 pub returns-in_default : goal.returns-in_default

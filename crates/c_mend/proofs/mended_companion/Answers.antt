@@ -1,6 +1,5 @@
 -- SPDX-License-Identifier: Apache-2.0
 -- `c_mend::mended_companion` meets its contract: registers and core, each put right by the calendar's own method.
-use borrow.Author.Rules.{rules}
 use Rattle.c_mend.proofs.mended_companion.Goals as goal
 
 pub returns : goal.returns

@@ -1,6 +1,5 @@
 -- SPDX-License-Identifier: Apache-2.0
 -- `c_mend::mended_state` meets its contract: the state with its companion put right.
-use borrow.Author.Rules.{rules}
 use Rattle.c_mend.proofs.mended_state.Goals as goal
 
 pub returns : goal.returns

@@ -4,7 +4,6 @@ use mathlib.Core.Path.{sym, ap, ◌∙◌}
 use Rattle.fm3130_image.specs.Image.{candidate}
 use Rattle.fm3130_image.proofs.Accepts.{image_long, image_written}
 use Rattle.c_pins.proofs.Ways.{line_asked}
-use borrow.Author.Rules.{rules}
 use Rattle.c_pins.proofs.ask.Goals as goal
 
 pub pulls_of-told-requires : goal.pulls_of-told-requires

@@ -1,8 +1,6 @@
 -- SPDX-License-Identifier: Apache-2.0
 use mathlib.Core.Path.{sym, ◌∙◌}
-use borrow.Author.Tests.{not-true, not-false}
 use Rattle.c_pins.proofs.Ways.{begin_memory, begin_image, begin_done}
-use borrow.Author.Rules.{rules}
 use Rattle.c_pins.proofs.begin.Goals as goal
 
 pub returns-then-memory-ne-MEMORY : goal.returns-then-memory-ne-MEMORY

@@ -1,6 +1,5 @@
 -- SPDX-License-Identifier: Apache-2.0
 use borrow.Author.Tests.{le-ltb, lt-ltb}
-use borrow.Author.Rules.{rules}
 use Rattle.c_pins.proofs.eighth.Goals as goal
 
 pub returns-then-image-gt27 : goal.returns-then-image-gt27

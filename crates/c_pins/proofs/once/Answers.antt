@@ -1,6 +1,5 @@
 -- SPDX-License-Identifier: Apache-2.0
 use Rattle.c_pins.proofs.Ran.{once_none, once_done}
-use borrow.Author.Rules.{rules}
 use Rattle.c_pins.proofs.once.Goals as goal
 
 pub returns-then-event-gt7 : goal.returns-then-event-gt7

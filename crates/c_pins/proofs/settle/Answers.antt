@@ -1,9 +1,7 @@
 -- SPDX-License-Identifier: Apache-2.0
 use mathlib.Core.Path.{sym, ◌∙◌}
-use borrow.Author.Tests.{not-true, not-false}
 use Rattle.c_pins.proofs.Ran.{ran_accepted}
 use Rattle.c_pins.proofs.Ways.{settle_left, settle_idle, settle_memory, settle_image, settle_done}
-use borrow.Author.Rules.{rules}
 use Rattle.c_pins.proofs.settle.Goals as goal
 
 pub returns-then-t-ne0 : goal.returns-then-t-ne0

@@ -1,6 +1,5 @@
 -- SPDX-License-Identifier: Apache-2.0
 use Rattle.c_pins.proofs.Ran.{ran_accepted, ran_join}
-use borrow.Author.Rules.{rules}
 use Rattle.c_pins.proofs.thrice.Goals as goal
 
 pub once-requires-2 : goal.once-requires-2

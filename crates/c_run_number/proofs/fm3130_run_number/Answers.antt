@@ -1,7 +1,6 @@
 -- SPDX-License-Identifier: Apache-2.0
 -- The list run's outcome, without the count.
 use mathlib.Core.Path.{ap}
-use borrow.Author.Rules.{rules}
 use Rattle.bus_list.specs.Outcome.{numbered}
 use Rattle.c_run_number.proofs.fm3130_run_number.Goals as goal
 

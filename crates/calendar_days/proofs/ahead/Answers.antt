@@ -7,7 +7,6 @@ use Rattle.calendar.proofs.Valid.{valid_facts}
 use Rattle.law_century.proofs.Instants.{day_below, time_below}
 use Rattle.calendar_days.specs.declared.places.Moment.{Moment}
 use Rattle.calendar_days.proofs.Later.{after_reached}
--- where the calendar stands
 use Rattle.calendar_days.proofs.ahead.Goals as goal
 use Rattle.calendar_days.proofs.ahead.Goals.{Start}
 

@@ -1,7 +1,6 @@
 -- SPDX-License-Identifier: Apache-2.0
 -- The byte inside the file, and past its end.
 use lib.ListN.{length, get_or-eq_default}
-use borrow.Author.Rules.{rules}
 use borrow.Author.Tests.{lt-ltb, le-ltb}
 use Rattle.capture_reader.proofs.taken_at.Goals as goal
 

@@ -1,14 +1,11 @@
 -- SPDX-License-Identifier: Apache-2.0
 -- The tests decide; what was read is the candidate.
-use mathlib.Core.Path.{◌≡◌, sym, ap, ◌∙◌}
+use mathlib.Core.Path.{sym, ap, ◌∙◌}
 use mathlib.Core.Bool.{true}
-use borrow.Author.Rules.{rules}
-use borrow.Author.Tests.{not-true, not-false}
 use Rattle.fm3130_image.specs.Code.Accepting.{is_image}
 use Rattle.fm3130_image.specs.declared.Decoded.TheVariants.{Good, Bad}
 use Rattle.fm3130_image.proofs.Images.{decode_settled}
 use Rattle.fm3130_image.proofs.Accepts.{image_long, image_read, image_not_read}
--- the image was accepted
 use Rattle.fm3130_accept.proofs.decode.Goals as goal
 
 pub returns-then-not-is_image : goal.returns-then-not-is_image

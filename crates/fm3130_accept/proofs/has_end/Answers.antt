@@ -1,7 +1,6 @@
 -- SPDX-License-Identifier: Apache-2.0
 -- Two bytes alone, and the bytes of each word, are those of every image.
 use native.Mathlib.Omega.{arith}
-use borrow.Author.Rules.{rules}
 use Rattle.fm3130_accept.proofs.Tests.{end_tested}
 use Rattle.fm3130_accept.proofs.has_end.Goals as goal
 

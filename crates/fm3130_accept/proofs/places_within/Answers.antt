@@ -1,7 +1,6 @@
 -- SPDX-License-Identifier: Apache-2.0
 -- Each byte by its place in its word, or alone.
 use native.Mathlib.Omega.{arith}
-use borrow.Author.Rules.{rules}
 use Rattle.fm3130_accept.proofs.Tests.{places_tested}
 use Rattle.fm3130_accept.proofs.places_within.Goals as goal
 

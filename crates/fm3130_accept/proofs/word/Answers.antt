@@ -1,7 +1,6 @@
 -- SPDX-License-Identifier: Apache-2.0
 -- Four reads, each inside the image; a byte is at most 255.
 use native.Mathlib.Omega.{arith}
-use borrow.Author.Rules.{rules}
 use Rattle.fm3130_accept.proofs.word.Goals as goal
 
 pub overflow_mul-result : goal.overflow_mul-result

@@ -1,7 +1,6 @@
 -- SPDX-License-Identifier: Apache-2.0
 -- The phase's number and the clocks done choose the way.
 use native.Mathlib.Omega.{arith}
-use borrow.Author.Rules.{rules}
 use Rattle.fm31_image.proofs.Accepts.{image_long}
 use Rattle.fm31_place_list.proofs.Striding.{idle_row, receive_row, send_row}
 use Rattle.fm31_place_list.proofs.clocks.Goals as goal

@@ -2,16 +2,8 @@
 -- The loop's invariant: the image is accepted, and the events so far lead from the first place to this one. The measure is
 -- what is left.
 use Prim.Native.Nat.{◌-◌}
-use mathlib.Core.Path.{◌≡◌, sym, ◌∙◌}
 use mathlib.Core.Bool.{true}
 use native.Mathlib.Omega.{arith}
-use lib.ListN.{length}
-use borrow.Author.Rules.{rules}
-use Rattle.bus.specs.Select.{lone}
-use Rattle.fm31_image.specs.Image.{candidate}
-use Rattle.fm31_image.specs.Accepting.{is_image}
-use Rattle.fm31_image.proofs.Accepts.{image_long}
-use Rattle.fm31_place_list.specs.Rowed.{Led}
 use Rattle.fm31_place_list.proofs.Striding.{begun, led_onward, ran_through}
 use Rattle.fm31_place_list.proofs.run_events.Goals as goal
 

@@ -1,6 +1,5 @@
 -- SPDX-License-Identifier: Apache-2.0
 -- One event: its answer goes to its place.
-use borrow.Author.Rules.{rules}
 use Rattle.bus_list.proofs.Runs.{known_at}
 use Rattle.fm31.specs.Chip.{last_event}
 use Rattle.fm31_place_list.proofs.Striding.{rowed_one}

@@ -1,6 +1,5 @@
 -- SPDX-License-Identifier: Apache-2.0
 -- The first event chooses the way.
-use borrow.Author.Rules.{rules}
 use Rattle.fm31_place_list.proofs.stride.Goals as goal
 
 pub bounds-events-from : goal.bounds-events-from

@@ -1,7 +1,6 @@
 -- SPDX-License-Identifier: Apache-2.0
 -- `lamps_bytes::bytes_of` meets its contract.
 use Rattle.lamps_bytes.specs.Kept.{bytes_of}
-use borrow.Author.Rules.{rules}
 use Rattle.lamps_bytes.proofs.bytes_of.Goals as goal
 
 pub returns : goal.returns

@@ -2,7 +2,6 @@
 -- `lamps_bytes::is_kept` meets its contract.
 use borrow.Author.Tests.{ne_eqb, eq-eqb}
 use Rattle.lamps_bytes.specs.Kept.{is_kept}
-use borrow.Author.Rules.{rules}
 use Rattle.lamps_bytes.proofs.is_kept.Goals as goal
 
 pub returns-then-kept-ne-RECORD : goal.returns-then-kept-ne-RECORD

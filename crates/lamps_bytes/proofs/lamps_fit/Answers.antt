@@ -1,6 +1,5 @@
 -- SPDX-License-Identifier: Apache-2.0
 -- `lamps_bytes::lamps_fit` meets its contract.
-use borrow.Author.Rules.{rules}
 use Rattle.lamps_bytes.proofs.lamps_fit.Goals as goal
 
 pub returns : goal.returns

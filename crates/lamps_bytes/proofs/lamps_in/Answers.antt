@@ -1,6 +1,5 @@
 -- SPDX-License-Identifier: Apache-2.0
 -- `lamps_bytes::lamps_in` meets its contract.
-use borrow.Author.Rules.{rules}
 use Rattle.lamps_bytes.proofs.lamps_in.Goals as goal
 
 pub returns : goal.returns

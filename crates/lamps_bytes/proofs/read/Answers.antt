@@ -1,7 +1,6 @@
 -- SPDX-License-Identifier: Apache-2.0
 -- `lamps_bytes::read` meets its contract.
 use Rattle.lamps_bytes.specs.Kept.{kept_of}
-use borrow.Author.Rules.{rules}
 use Rattle.lamps_bytes.proofs.read.Goals as goal
 
 pub returns : goal.returns

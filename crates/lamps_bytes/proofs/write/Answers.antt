@@ -1,7 +1,6 @@
 -- SPDX-License-Identifier: Apache-2.0
 -- `lamps_bytes::write` meets its contract.
 use mathlib.Core.Path.{◌∙◌}
-use borrow.Author.Rules.{rules}
 use Rattle.lamps_bytes.proofs.write.Goals as goal
 
 pub returns : goal.returns

@@ -2,7 +2,6 @@
 use mathlib.Core.Path.{sym, ◌∙◌}
 use borrow.Author.Tests.{eq-eqb, ne_eqb}
 use Rattle.pins_levels.specs.Look.{driven_of}
-use borrow.Author.Rules.{rules}
 use Rattle.pins_levels.proofs.driven.Goals as goal
 
 pub returns-then-t-ne0 : goal.returns-then-t-ne0

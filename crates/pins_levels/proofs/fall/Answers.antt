@@ -1,5 +1,4 @@
 -- SPDX-License-Identifier: Apache-2.0
-use borrow.Author.Rules.{rules}
 use Rattle.pins_levels.proofs.fall.Goals as goal
 
 pub returns-then-t : goal.returns-then-t

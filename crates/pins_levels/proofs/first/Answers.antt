@@ -1,5 +1,4 @@
 -- SPDX-License-Identifier: Apache-2.0
-use borrow.Author.Rules.{rules}
 use Rattle.pins_levels.proofs.first.Goals as goal
 
 pub returns-in-Low : goal.returns-in-Low

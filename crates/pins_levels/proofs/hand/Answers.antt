@@ -1,7 +1,6 @@
 -- SPDX-License-Identifier: Apache-2.0
 use borrow.Author.Tests.{eq-eqb, ne_eqb, lt-ltb, le-ltb}
 use Rattle.pins_levels.specs.Look.{hand_of}
-use borrow.Author.Rules.{rules}
 use Rattle.pins_levels.proofs.hand.Goals as goal
 
 pub returns-then-t-ne0 : goal.returns-then-t-ne0

@@ -3,7 +3,6 @@ use mathlib.Core.Path.{sym, ap, ◌∙◌}
 use borrow.Author.Tests.{eq-eqb, ne_eqb}
 use Rattle.pins_levels.specs.Look.{look_of, stayed}
 use Rattle.pins_levels.proofs.Facts.{if_true, if_false}
-use borrow.Author.Rules.{rules}
 use Rattle.pins_levels.proofs.look.Goals as goal
 
 pub returns-then-t-ne0 : goal.returns-then-t-ne0

@@ -1,6 +1,5 @@
 -- SPDX-License-Identifier: Apache-2.0
 use Rattle.pins_levels.proofs.Facts.{is_beq}
-use borrow.Author.Rules.{rules}
 use Rattle.pins_levels.proofs.same.Goals as goal
 
 pub returns-then-a : goal.returns-then-a

@@ -2,7 +2,6 @@
 -- A register's address is taken, any other byte is not.
 use borrow.Author.Tests.{le-leb, lt-leb}
 use Rattle.place_companion.proofs.Desks.{aim_refused, aim_taken}
-use borrow.Author.Rules.{rules}
 use lib.ListN.{length-set}
 use Rattle.place_companion.proofs.aim.Goals as goal
 

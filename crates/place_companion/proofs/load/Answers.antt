@@ -3,7 +3,6 @@
 use Prim.Native.Nat.{◌≤◌}
 use Rattle.fm3130_image.specs.Image.{image_of}
 use Rattle.place_companion.proofs.Desks.{load_at}
-use borrow.Author.Rules.{rules}
 use native.Mathlib.Omega.{arith}
 use Rattle.place_companion.proofs.load.Goals as goal
 

@@ -2,13 +2,11 @@
 -- Refused, or 00h and the core by their stores.
 use mathlib.Core.Path.{◌≡◌, refl, sym, ◌∙◌}
 use mathlib.Core.Bool.{true, false}
-use borrow.Author.Tests.{not-true, not-false}
 use Rattle.calendar.specs.Next.{is_valid}
 use Rattle.fm3130.specs.Code.Bus.{with_companion}
 use Rattle.fm3130_image.specs.Image.{image_of, calendar_at}
 use Rattle.place_companion.specs.Code.Desk.{control_put}
 use Rattle.place_companion.proofs.Desks.{load_refused, load_taken}
-use borrow.Author.Rules.{rules}
 use lib.ListN.{length-set}
 use Rattle.place_companion.proofs.load_control.Goals as goal
 

@@ -6,7 +6,6 @@ use lib.Dec.{eqb}
 use borrow.Author.Tests.{eq-eqb, ne_eqb}
 use Rattle.fm3130_image.specs.Image.{image_of}
 use Rattle.place_companion.proofs.Desks.{loaded_control, loaded_other}
-use borrow.Author.Rules.{rules}
 use native.Mathlib.Omega.{arith}
 use lib.ListN.{length-set}
 use Rattle.place_companion.proofs.loaded.Goals as goal

@@ -2,7 +2,6 @@
 -- Seven reads and seven stores.
 use mathlib.Core.Path.{refl}
 use Rattle.fm3130_image.specs.Image.{image_of}
-use borrow.Author.Rules.{rules}
 use native.Mathlib.Omega.{arith}
 use lib.ListN.{length-set}
 use Rattle.place_companion.proofs.show_core.Goals as goal

@@ -1,7 +1,6 @@
 -- SPDX-License-Identifier: Apache-2.0
 -- By R, and else by W.
 use mathlib.Core.Path.{sym, ◌∙◌}
-use borrow.Author.Rules.{rules}
 use Rattle.place_companion.proofs.shows_core.Goals as goal
 
 pub returns-then-has : goal.returns-then-has

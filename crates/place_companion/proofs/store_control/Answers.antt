@@ -2,13 +2,11 @@
 -- By W; and where it does not fall by whether 02h to 08h take the core.
 use mathlib.Core.Path.{◌≡◌, refl, sym, ◌∙◌}
 use mathlib.Core.Bool.{true, false}
-use borrow.Author.Tests.{not-true, not-false}
 use Rattle.fm3130_registers.specs.Control.{w_falls}
 use Rattle.fm3130.specs.Code.Bus.{with_companion}
 use Rattle.fm3130_image.specs.Image.{image_of}
 use Rattle.place_companion.specs.Code.Desk.{shows_core, control_put, core_shown}
 use Rattle.place_companion.proofs.Desks.{took_as, took_whole, loaded_taken, put_taken, shown_taken}
-use borrow.Author.Rules.{rules}
 use lib.ListN.{length-set}
 use Rattle.place_companion.proofs.store_control.Goals as goal
 

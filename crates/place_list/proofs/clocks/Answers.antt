@@ -1,7 +1,6 @@
 -- SPDX-License-Identifier: Apache-2.0
 -- The phase's number and the clocks done choose the way.
 use native.Mathlib.Omega.{arith}
-use borrow.Author.Rules.{rules}
 use Rattle.fm3130_image.proofs.Accepts.{image_long}
 use Rattle.place_list.proofs.Striding.{row_done, row_sent}
 use Rattle.place_list.proofs.clocks.Goals as goal

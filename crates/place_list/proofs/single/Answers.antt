@@ -1,6 +1,5 @@
 -- SPDX-License-Identifier: Apache-2.0
 -- One event: its answer goes to its place.
-use borrow.Author.Rules.{rules}
 use Rattle.fm3130_list.proofs.Runs.{known_at}
 use Rattle.place_list.proofs.Striding.{rowed_one}
 use Rattle.place_list.proofs.single.Goals as goal

@@ -3,7 +3,6 @@
 use mathlib.Core.Path.{sym, ◌∙◌}
 use native.Mathlib.Omega.{arith}
 use lib.ListN.{get_or}
-use borrow.Author.Rules.{rules}
 use Rattle.fm3130_image.specs.Image.{candidate}
 use Rattle.place_list.proofs.Striding.{row_done, moves_facts}
 use Rattle.place_list.proofs.stride.Goals as goal

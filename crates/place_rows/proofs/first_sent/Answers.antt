@@ -2,7 +2,6 @@
 -- A byte that has begun, or its first bit.
 use mathlib.Core.Path.{refl, sym, ◌∙◌}
 use native.Mathlib.Omega.{arith}
-use borrow.Author.Rules.{rules}
 use Rattle.fm3130_image.proofs.Accepts.{image_long, image_written}
 use Rattle.fm3130_image.proofs.Lies.{image_places}
 use Rattle.place_rows.proofs.Rowing.{begun_still, row_begun, shown_both}

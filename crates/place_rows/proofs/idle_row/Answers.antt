@@ -1,13 +1,12 @@
 -- SPDX-License-Identifier: Apache-2.0
 -- The loop's invariant: the Clocks so far lead from the first place to this one, in the same state. The measure is what is
 -- left of the events.
-use Prim.Native.Nat.{ℕ, ◌-◌, ◌/◌, ◌≤◌}
+use Prim.Native.Nat.{ℕ, ◌-◌, ◌/◌}
 use mathlib.Core.Path.{◌≡◌, refl, sym}
 use native.Mathlib.Omega.{arith}
-use lib.ListN.{length}
 use borrow.Author.Rules.{rules}
 use Rattle.fm3130_image.proofs.Accepts.{image_long, image_written}
-use Rattle.place_rows.proofs.Rowing.{IdleLed, idle_begun, idle_more, idle_reached, further, shown_both}
+use Rattle.place_rows.proofs.Rowing.{idle_begun, idle_more, idle_reached, further, shown_both}
 use Rattle.place_rows.proofs.idle_row.Goals as goal
 
 pub shown-pin-requires : goal.shown-pin-requires

@@ -1,7 +1,6 @@
 -- SPDX-License-Identifier: Apache-2.0
 -- Linear facts.
 use native.Mathlib.Omega.{arith}
-use borrow.Author.Rules.{rules}
 use Rattle.place_rows.proofs.row_end.Goals as goal
 
 pub returns-then-length-from : goal.returns-then-length-from

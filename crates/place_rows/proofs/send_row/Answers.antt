@@ -1,13 +1,13 @@
 -- SPDX-License-Identifier: Apache-2.0
 -- The loop's invariant: the image is as it was, and the bits so far lead from the first place to this one, in the state with
 -- so many clocks done and these bits. The measure is what is left of the row.
-use Prim.Native.Nat.{ℕ, ◌+◌, ◌-◌, ◌/◌, ◌<◌, ◌≤◌}
+use Prim.Native.Nat.{ℕ, ◌-◌, ◌/◌, ◌<◌}
 use mathlib.Core.Path.{◌≡◌, refl, sym, ap, ◌∙◌}
 use native.Mathlib.Omega.{arith}
-use lib.ListN.{length, get_or}
+use lib.ListN.{length}
 use borrow.Author.Rules.{rules}
 use Rattle.fm3130_image.proofs.Accepts.{image_long, image_written}
-use Rattle.place_rows.proofs.Rowing.{BitsLed, bits_begun, outgoing_more, bits_reached, settled_length, further, shown_both}
+use Rattle.place_rows.proofs.Rowing.{bits_begun, outgoing_more, bits_reached, further, shown_both}
 use Rattle.place_rows.proofs.send_row.Goals as goal
 
 pub shown-pin-requires : goal.shown-pin-requires

@@ -1,19 +1,13 @@
 -- SPDX-License-Identifier: Apache-2.0
 -- The loop's invariant: the core still moves, and the ticks so far lead from the first place to this one. The measure is what
 -- is left of the events.
-use Prim.Native.Nat.{ℕ, ◌-◌, ◌≤◌}
-use mathlib.Core.Path.{◌≡◌, refl, sym, ap, ◌∙◌}
-use native.Mathlib.Omega.{arith}
+use Prim.Native.Nat.{◌-◌, ◌≤◌}
+use mathlib.Core.Path.{◌≡◌}
 use lib.ListN.{length}
-use borrow.Author.Rules.{rules}
-use Rattle.fm3130_image.proofs.Accepts.{image_long, image_written}
 use mathlib.Core.Bool.{true}
 use Rattle.fm3130_image.specs.Image.{image_of, candidate}
-use Rattle.fm3130_image.proofs.Images.{image_length}
 use Rattle.place_tick.specs.Code.Tick.{is_ticking}
-use Rattle.place_tick.proofs.Ticks.{ticking_parts, counted_ticks}
-use Rattle.place_rows.proofs.Ledger.{lies}
-use Rattle.place_rows.proofs.Rowing.{TicksLed, idle_begun, tick_more, ticks_reached, further, shown_both}
+use Rattle.place_rows.proofs.Rowing.{TicksLed}
 use Rattle.place_rows.proofs.tick_row.Given as goal
 
 abbrev pub invariant-loop-i : goal.invariant-loop-i

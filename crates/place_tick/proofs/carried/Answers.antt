@@ -1,6 +1,6 @@
 -- SPDX-License-Identifier: Apache-2.0
 -- The calendar's own tick, by value; then the alarm and what the tick tells.
-use Rattle.std.proofs.Common.{◌≡◌, refl, ap, ◌∙◌, rules}
+use Rattle.std.proofs.Common.{◌≡◌, refl, ap, ◌∙◌}
 use Rattle.calendar.specs.Next.{next_of}
 use Rattle.calendar.specs.declared.Advanced.{Advanced}
 use Rattle.fm3130_companion.specs.declared.Companion.{Companion}

@@ -1,6 +1,6 @@
 -- SPDX-License-Identifier: Apache-2.0
 -- The seconds alone, or the calendar's own tick.
-use Rattle.std.proofs.Common.{sym, refl, ap, ◌∙◌, length-set, rules}
+use Rattle.std.proofs.Common.{sym, refl, ap, ◌∙◌, length-set}
 use Rattle.calendar.specs.declared.Advanced.{Advanced}
 use Rattle.fm3130.specs.Code.Bus.{with_companion}
 use Rattle.fm3130_image.specs.Image.{image_of}

@@ -1,6 +1,6 @@
 -- SPDX-License-Identifier: Apache-2.0
 -- The three tests.
-use Rattle.std.proofs.Common.{sym, refl, ◌∙◌, rules}
+use Rattle.std.proofs.Common.{sym, refl, ◌∙◌}
 use Rattle.bits.specs.Weight.{has}
 use Rattle.fm3130_image.specs.Image.{image_of, calendar_at}
 use Rattle.place_tick.proofs.Ticks.{ticks_dark, ticks_stopped, ticks_valid}

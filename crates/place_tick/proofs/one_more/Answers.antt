@@ -1,6 +1,6 @@
 -- SPDX-License-Identifier: Apache-2.0
 -- By the low digit.
-use Rattle.std.proofs.Common.{rules, eq-eqb, ne_eqb}
+use Rattle.std.proofs.Common.{eq-eqb, ne_eqb}
 use Rattle.place_tick.specs.Code.Tick.{one_more}
 use Rattle.place_tick.proofs.one_more.Goals as goal
 

@@ -1,7 +1,6 @@
 -- SPDX-License-Identifier: Apache-2.0
 -- The seconds decide, or all five.
-use Rattle.std.proofs.Common.{◌≡◌, true, false, sym, refl, ◌∙◌, rules}
-use borrow.Author.Tests.{not-true, not-false}
+use Rattle.std.proofs.Common.{◌≡◌, true, false, sym, refl, ◌∙◌}
 use Rattle.fm3130_registers.specs.Alarm.{agrees}
 use Rattle.fm3130_image.specs.Image.{image_of}
 use Rattle.place_tick.proofs.rings.Goals as goal

@@ -1,6 +1,6 @@
 -- SPDX-License-Identifier: Apache-2.0
 -- 00h, and 02h to 08h where they follow.
-use Rattle.std.proofs.Common.{◌≡◌, true, false, ◌||◌, refl, ◌∙◌, length-set, rules}
+use Rattle.std.proofs.Common.{◌≡◌, true, false, ◌||◌, refl, ◌∙◌, length-set}
 use Rattle.bits.specs.Weight.{has}
 use Rattle.fm3130_registers.specs.Map.{W, R}
 use Rattle.fm3130_companion.specs.Change.{with_time, with_registers}

@@ -1,6 +1,6 @@
 -- SPDX-License-Identifier: Apache-2.0
 -- By the oscillator, and by whether the core is valid.
-use Rattle.std.proofs.Common.{◌≡◌, true, false, sym, ◌∙◌, rules}
+use Rattle.std.proofs.Common.{◌≡◌, true, false, sym, ◌∙◌}
 use Rattle.bits.specs.Weight.{has}
 use Rattle.calendar.specs.Next.{is_valid}
 use Rattle.fm3130_registers.specs.Map.{OSCEN}

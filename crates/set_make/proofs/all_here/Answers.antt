@@ -1,7 +1,6 @@
 -- SPDX-License-Identifier: Apache-2.0
 -- `set_make::all_here` meets its contract.
 use Rattle.set_event.specs.Make.{all_here}
-use borrow.Author.Rules.{rules}
 use Rattle.set_make.proofs.all_here.Goals as goal
 
 pub returns : goal.returns

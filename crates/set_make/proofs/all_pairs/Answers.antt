@@ -1,7 +1,6 @@
 -- SPDX-License-Identifier: Apache-2.0
 -- `set_make::all_pairs` meets its contract.
 use Rattle.set_event.specs.Make.{all_pairs}
-use borrow.Author.Rules.{rules}
 use Rattle.set_make.proofs.all_pairs.Goals as goal
 
 pub returns : goal.returns

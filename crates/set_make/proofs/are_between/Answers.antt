@@ -1,7 +1,6 @@
 -- SPDX-License-Identifier: Apache-2.0
 -- `set_make::are_between` meets its contract.
 use Rattle.set_event.specs.Make.{places_are}
-use borrow.Author.Rules.{rules}
 use Rattle.set_make.proofs.are_between.Goals as goal
 
 pub returns : goal.returns

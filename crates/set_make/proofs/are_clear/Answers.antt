@@ -1,6 +1,5 @@
 -- SPDX-License-Identifier: Apache-2.0
 -- `set_make::are_clear` meets its contract, at the phase that the match found.
-use borrow.Author.Rules.{rules}
 use Rattle.set_make.proofs.are_clear.Goals as goal
 
 pub returns-in-Slave : goal.returns-in-Slave

@@ -1,7 +1,6 @@
 -- SPDX-License-Identifier: Apache-2.0
 -- `set_make::is_between` meets its contract.
 use Rattle.set_event.specs.Make.{is_between}
-use borrow.Author.Rules.{rules}
 use Rattle.set_make.proofs.is_between.Goals as goal
 
 pub returns : goal.returns

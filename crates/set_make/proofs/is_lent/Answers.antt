@@ -1,7 +1,6 @@
 -- SPDX-License-Identifier: Apache-2.0
 -- `set_make::is_lent` meets its contract.
 use Rattle.set_event.specs.Make.{is_lent}
-use borrow.Author.Rules.{rules}
 use Rattle.set_make.proofs.is_lent.Goals as goal
 
 pub returns : goal.returns

@@ -2,14 +2,10 @@
 -- The tests in their order, each way by its law.
 use mathlib.Core.Path.{◌≡◌, sym, ◌∙◌}
 use mathlib.Core.Bool.{true}
-use borrow.Author.Rules.{rules}
-use borrow.Author.Tests.{not-true, not-false}
-use Rattle.set_event.specs.Set.{Together}
 use Rattle.set_event.specs.Make.{is_lent, is_within, places_are, selects_differ, count_fits}
 use Rattle.set_event.specs.Outcome.{lent_to}
 use Rattle.set_make.proofs.Ways.{make_wrong_count, make_wrong_memory, make_wrong_state, make_equal_selects}
 use Rattle.set_make.proofs.Ways.{make_in_transfer, make_accepted}
--- the set, and what each test that was passed says of it
 use Rattle.set_make.proofs.number.Goals as goal
 
 pub returns-then-not-is_count : goal.returns-then-not-is_count

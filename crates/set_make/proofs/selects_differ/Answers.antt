@@ -1,7 +1,6 @@
 -- SPDX-License-Identifier: Apache-2.0
 -- `set_make::selects_differ` meets its contract.
 use Rattle.set_event.specs.Make.{pairs_are}
-use borrow.Author.Rules.{rules}
 use Rattle.set_make.proofs.selects_differ.Goals as goal
 
 pub returns : goal.returns

@@ -1,7 +1,6 @@
 -- SPDX-License-Identifier: Apache-2.0
 -- `set_make::stand_together` meets its contract: each two phases by their test.
 use Rattle.set_event.specs.Make.{pairs_are}
-use borrow.Author.Rules.{rules}
 use Rattle.set_make.proofs.stand_together.Goals as goal
 
 pub returns : goal.returns

@@ -1,7 +1,6 @@
 -- SPDX-License-Identifier: Apache-2.0
 -- A Clock is heard while main power is present.
 use mathlib.Core.Path.{refl}
-use borrow.Author.Rules.{rules}
 use Rattle.wire.specs.Machine.{lined, clock}
 use Rattle.bus.specs.Happening.{on_wire}
 use Rattle.bus.specs.Event.{event_on}

@@ -1,7 +1,6 @@
 -- SPDX-License-Identifier: Apache-2.0
 -- A Clock by phase: each phase's own clock, cited at the phase that the match found.
 use mathlib.Core.Path.{refl, sym}
-use borrow.Author.Rules.{rules}
 use Rattle.wire.specs.Machine.{clocked}
 use Rattle.wire.proofs.Cells.{low_bytes}
 use Rattle.bus.specs.Select.{slave_names_for}

@@ -1,6 +1,5 @@
 -- SPDX-License-Identifier: Apache-2.0
 -- One event: a Clock, or one that touches no memory.
-use borrow.Author.Rules.{rules}
 use Rattle.bus.specs.Select.{slave_names_for}
 use Rattle.bus.proofs.Cases.{happening_clock}
 use Rattle.bus.proofs.Bus.happen.Goals as goal

@@ -1,6 +1,5 @@
 -- SPDX-License-Identifier: Apache-2.0
 -- An event that is no Clock, under each supply: those that change something one by one, the others together.
-use borrow.Author.Rules.{rules}
 use Rattle.wire.specs.Machine.{lined}
 use Rattle.bus.specs.Happening.{happening, edges}
 use Rattle.bus.specs.Event.{event_on}

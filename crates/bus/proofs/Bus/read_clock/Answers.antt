@@ -1,7 +1,6 @@
 -- SPDX-License-Identifier: Apache-2.0
 -- A data byte to the master, by the device that it serves.
 use mathlib.Core.Path.{refl, sym}
-use borrow.Author.Rules.{rules}
 use Rattle.wire.specs.Machine.{clocked}
 use Rattle.wire.proofs.Cells.{fetch_bytes}
 use Rattle.bus.proofs.Cases.{both}

@@ -1,6 +1,5 @@
 -- SPDX-License-Identifier: Apache-2.0
 -- What a clock that left the memory alone leaves, put back into the bus.
-use borrow.Author.Rules.{rules}
 use Rattle.bus.proofs.Bus.turned.Goals as goal
 
 pub returns : goal.returns

@@ -1,7 +1,6 @@
 -- SPDX-License-Identifier: Apache-2.0
 -- A data byte from the master, by the device that it serves.
 use mathlib.Core.Path.{refl}
-use borrow.Author.Rules.{rules}
 use Rattle.wire.specs.Machine.{clocked}
 use Rattle.bus.proofs.Cases.{both}
 use Rattle.bus.proofs.Bus.write_clock.Goals as goal

@@ -1,7 +1,6 @@
 -- SPDX-License-Identifier: Apache-2.0
 -- `bus::select::names_for` meets its contract.
 use borrow.Author.Tests.{eq-eqb, ne_eqb}
-use borrow.Author.Rules.{rules}
 use Rattle.bus.specs.Select.{slave_names_for}
 use Rattle.bus.proofs.select.names_for.Goals as goal
 

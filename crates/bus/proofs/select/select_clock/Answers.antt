@@ -2,7 +2,6 @@
 -- A slave byte, clock by clock: acknowledged where it names somebody, and then that is opened.
 use mathlib.Core.Path.{refl}
 use native.Mathlib.Omega.{arith}
-use borrow.Author.Rules.{rules}
 use borrow.Author.Tests.{lt-ltb}
 use Rattle.wire.specs.Kinds.{slave_byte}
 use Rattle.wire.proofs.Clock.{received_inside}

@@ -1,6 +1,5 @@
 -- SPDX-License-Identifier: Apache-2.0
 -- A data byte from the companion, clock by clock, given the companion's byte.
-use borrow.Author.Rules.{rules}
 use Rattle.bus.proofs.turns.load_turn.Goals as goal
 
 pub returns : goal.returns

@@ -1,7 +1,6 @@
 -- SPDX-License-Identifier: Apache-2.0
 -- A companion address byte, clock by clock, given the companion's acknowledge.
 use mathlib.Core.Path.{refl}
-use borrow.Author.Rules.{rules}
 use Rattle.wire.specs.Kinds.{pointer_byte}
 use Rattle.wire.proofs.Handed.{received_seen}
 use Rattle.bus.specs.Code.Desk.{replied}

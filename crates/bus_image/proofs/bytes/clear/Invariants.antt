@@ -1,12 +1,9 @@
 -- SPDX-License-Identifier: Apache-2.0
 -- The loop's invariant: the bytes passed are 0, the others as they were. The measure is what is left.
 use Prim.Native.Nat.{◌≤◌, ◌-◌}
-use mathlib.Core.Path.{◌≡◌, refl}
+use mathlib.Core.Path.{◌≡◌}
 use mathlib.Core.List.{◌++◌}
-use native.Mathlib.Omega.{arith}
 use lib.ListN.{length, drop, replicate}
-use borrow.Author.Rules.{rules}
-use Rattle.bus_image.proofs.Lists.{clear_more, clear_done}
 use Rattle.bus_image.proofs.bytes.clear.Given as goal
 
 abbrev pub invariant-loop-i : goal.invariant-loop-i

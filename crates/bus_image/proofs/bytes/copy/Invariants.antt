@@ -2,10 +2,7 @@
 -- The loop's invariant: the bytes passed are copied. The measure is what is left.
 use Prim.Native.Nat.{◌≤◌, ◌-◌}
 use mathlib.Core.Path.{◌≡◌}
-use native.Mathlib.Omega.{arith}
 use lib.ListN.{length, take}
-use borrow.Author.Rules.{rules}
-use Rattle.bus_image.proofs.Lists.{copy_more, copy_done}
 use Rattle.bus_image.proofs.bytes.copy.Given as goal
 
 abbrev pub invariant-loop-i : goal.invariant-loop-i

@@ -1,12 +1,9 @@
 -- SPDX-License-Identifier: Apache-2.0
 -- The loop's invariant: what was seen of the two, and the rest, decide the whole. The measure is what is left.
-use Prim.Native.Nat.{◌≤◌, ◌-◌}
-use mathlib.Core.Path.{◌≡◌, sym, ◌∙◌}
-use mathlib.Core.Bool.{◌&&◌}
+use Prim.Native.Nat.{◌-◌}
+use mathlib.Core.Path.{sym, ◌∙◌}
 use native.Mathlib.Omega.{arith}
-use lib.ListN.{length, drop}
 use borrow.Author.Rules.{rules}
-use Rattle.bus_image.specs.Bytes.{same_bytes}
 use Rattle.bus_image.proofs.Lists.{same_lengths, same_more, same_end}
 use Rattle.bus_image.proofs.bytes.same.Goals as goal
 

@@ -1,6 +1,5 @@
 -- SPDX-License-Identifier: Apache-2.0
 -- The four numbers of each phase, at the phase that the match found.
-use borrow.Author.Rules.{rules}
 use Rattle.bus_image.proofs.layout.transfer_of.Goals as goal
 
 pub returns-in-Idle : goal.returns-in-Idle

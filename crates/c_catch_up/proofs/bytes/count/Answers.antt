@@ -2,10 +2,8 @@
 -- `c_catch_up::bytes::count` meets its contract: what is written over the image is what Written says, of an invalid core and of
 -- a valid one.
 use mathlib.Core.Path.{sym, ◌∙◌}
-use borrow.Author.Tests.{not-true, not-false}
 use Rattle.calendar.proofs.Tests.{true_test}
 use Rattle.c_catch_up.proofs.Written.{counted_invalid, counted_valid}
-use borrow.Author.Rules.{rules}
 use Rattle.c_catch_up.proofs.bytes.count.Goals as goal
 
 pub returns-then-not-is_valid : goal.returns-then-not-is_valid

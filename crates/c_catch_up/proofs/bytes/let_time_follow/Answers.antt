@@ -2,7 +2,6 @@
 -- `c_catch_up::bytes::let_time_follow` meets its contract: its two tests are those of the definition.
 use mathlib.Core.Path.{◌∙◌}
 use Rattle.c_catch_up.proofs.Written.{follow_kept, follow_written}
-use borrow.Author.Rules.{rules}
 use Rattle.c_catch_up.proofs.bytes.let_time_follow.Goals as goal
 
 pub returns-then-has : goal.returns-then-has

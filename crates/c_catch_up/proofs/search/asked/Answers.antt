@@ -1,7 +1,6 @@
 -- SPDX-License-Identifier: Apache-2.0
 -- `c_catch_up::search::asked` meets its contract: digits that are none, or the number of the two.
 use Rattle.c_catch_up.proofs.Narrow.{asks_none, asks_one}
-use borrow.Author.Rules.{rules}
 use Rattle.c_catch_up.proofs.search.asked.Goals as goal
 
 pub returns-then-byte-gt9 : goal.returns-then-byte-gt9

@@ -1,7 +1,6 @@
 -- SPDX-License-Identifier: Apache-2.0
 -- `c_catch_up::search::later` meets its contract.
 use native.Mathlib.Omega.{arith}
-use borrow.Author.Rules.{rules}
 use Rattle.c_catch_up.proofs.search.later.Goals as goal
 
 pub returns-then-day-start : goal.returns-then-day-start

@@ -3,7 +3,6 @@
 use native.Mathlib.Omega.{arith}
 use mathlib.Core.Path.{sym, ◌∙◌}
 use Rattle.c_catch_up.proofs.Narrow.{skips_none, skips_one}
-use borrow.Author.Rules.{rules}
 use Rattle.c_catch_up.proofs.search.next_month.Goals as goal
 
 pub returns-then-has : goal.returns-then-has

@@ -2,10 +2,8 @@
 -- `c_catch_up::search::rings_in` meets its contract: each return cites its case in Rings.
 use native.Mathlib.Omega.{arith}
 use mathlib.Core.Path.{sym, ◌∙◌}
-use borrow.Author.Tests.{not-true, not-false}
 use Rattle.calendar_days.proofs.Months.{month_start_most}
 use Rattle.c_catch_up.proofs.Rings.{rings_other, rings_any, rings_one}
-use borrow.Author.Rules.{rules}
 use Rattle.c_catch_up.proofs.search.rings_in.Goals as goal
 
 pub returns-then-not-passes : goal.returns-then-not-passes

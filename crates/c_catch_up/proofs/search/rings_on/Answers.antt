@@ -6,10 +6,8 @@ use Prim.Native.Nat.{ℕ, ◌-◌, ◌≤◌, ◌<◌}
 use mathlib.Core.Path.{subst}
 use Rattle.calendar.specs.Instant.{month_start}
 use Rattle.calendar_days.proofs.Months.{month_start_near}
-use Rattle.c_catch_up.specs.Code.Search.{DayRings, Later}
+use Rattle.c_catch_up.specs.Code.Search.{Later}
 use Rattle.c_catch_up.proofs.Rings.{none_skipped, none_later, tells_first, tells_none, tells_some}
-use borrow.Author.Rules.{rules}
--- a month that starts well before the end is not one of the last
 use Rattle.c_catch_up.proofs.search.rings_on.Goals as goal
 
 early : (d k : ℕ) → month_start k ≤ d → d < 72000 → k < 2380

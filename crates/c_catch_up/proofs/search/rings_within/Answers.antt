@@ -7,7 +7,6 @@ use mathlib.Core.Path.{◌≡◌, sym, ◌∙◌}
 use borrow.Author.Tests.{leb-true, leb-false}
 use Rattle.c_catch_up.specs.Code.Search.{DayRings}
 use Rattle.c_catch_up.proofs.Rings.{Passing, tells_narrowed, tells_empty, narrowed_first, rung_by}
-use borrow.Author.Rules.{rules}
 use Rattle.c_catch_up.proofs.search.rings_within.Goals as goal
 
 pub overflow_mul-first : goal.overflow_mul-first

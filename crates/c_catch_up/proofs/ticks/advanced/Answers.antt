@@ -7,7 +7,6 @@ use Rattle.calendar.proofs.Tests.{test_true}
 use Rattle.calendar_days.specs.Code.Places.{Standing}
 use Rattle.calendar_days.specs.After.{after_of}
 use Rattle.calendar_days.proofs.Standing.{stands}
-use borrow.Author.Rules.{rules}
 use Rattle.c_catch_up.proofs.ticks.advanced.Goals as goal
 
 pub ahead-last-requires : goal.ahead-last-requires

@@ -3,15 +3,12 @@
 use mathlib.Core.Path.{◌≡◌, sym, ◌∙◌}
 use mathlib.Core.Bool.{true}
 use lib.ListN.{length}
-use borrow.Author.Rules.{rules}
-use borrow.Author.Tests.{not-true, not-false}
 use Rattle.bus.specs.Select.{lone}
 use Rattle.fm31_run.specs.Code.Run.{all_known}
 use Rattle.fm31_image.specs.Accepting.{is_image}
 use Rattle.fm31_image.proofs.Accepts.{image_read, image_not_read}
 use Rattle.c_fm31.proofs.Runs.{told, outcome_wrong_memory, outcome_wrong_image, outcome_unknown_event}
 use Rattle.c_fm31.proofs.Runs.{outcome_short_answers, outcome_done}
--- where an image was accepted: it is, and the memory has its length
 use Rattle.c_fm31.proofs.run.run.Goals as goal
 
 pub returns-then-memory-size : goal.returns-then-memory-size

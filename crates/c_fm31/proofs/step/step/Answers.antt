@@ -3,14 +3,11 @@
 use mathlib.Core.Path.{◌≡◌, sym, ◌∙◌}
 use mathlib.Core.Bool.{true}
 use lib.ListN.{length}
-use borrow.Author.Rules.{rules}
-use borrow.Author.Tests.{not-true, not-false}
 use Rattle.bus.specs.Select.{lone}
 use Rattle.fm31_image.specs.Accepting.{is_image}
 use Rattle.fm31_image.proofs.Accepts.{image_read, image_not_read}
 use Rattle.c_fm31.proofs.Singles.{single_wrong_memory, single_wrong_image, single_unknown_event, single_short}
 use Rattle.c_fm31.proofs.Singles.{single_answered, front_set}
--- where an image was accepted: it is, and the memory has its length
 use Rattle.c_fm31.proofs.step.step.Goals as goal
 
 pub returns-then-memory-size : goal.returns-then-memory-size

@@ -2,13 +2,10 @@
 -- The tests in their order, each way by its law.
 use mathlib.Core.Path.{◌≡◌, sym, ◌∙◌}
 use mathlib.Core.Bool.{true}
-use borrow.Author.Rules.{rules}
 use borrow.Author.Tests.{not-true, not-false}
-use Rattle.set_event.specs.Set.{Together}
 use Rattle.set_event.specs.Make.{is_lent, places_are, count_fits}
 use Rattle.set_event.specs.Outcome.{lent_to}
 use Rattle.c_fm31set.proofs.Entries.{check_wrong_count, check_wrong_memory, check_wrong_state, check_made}
--- the set, and what each test that was passed says
 use Rattle.c_fm31set.proofs.entry.fm31_set_check.Goals as goal
 
 pub returns-then-not-is_count : goal.returns-then-not-is_count

@@ -1,14 +1,6 @@
 -- SPDX-License-Identifier: Apache-2.0
 -- Refused, by the number that the tests gave; or the events done, and the images written at the end.
-use Prim.Native.Nat.{◌*◌, ◌≤◌, ◌<◌}
-use mathlib.Core.Path.{◌≡◌}
-use lib.ListN.{length}
-use borrow.Author.Rules.{rules}
-use Rattle.set_event.specs.Set.{Together}
-use Rattle.set_event.specs.Outcome.{lent_to, SetFit}
-use Rattle.fm31_image.specs.Image.{image_size}
-use Rattle.c_fm31set.proofs.Entries.{run_refused, images_long, some_device, room_enough, set_fit, run_written}
--- where nothing is refused
+use Rattle.c_fm31set.proofs.Entries.{run_refused, images_long, room_enough, set_fit, run_written}
 use Rattle.c_fm31set.proofs.entry.fm31_set_run.Goals as goal
 
 pub returns-then-number-ne-ACCEPTED : goal.returns-then-number-ne-ACCEPTED
@@ -26,9 +18,9 @@ run_events-last-requires c =
     let n = c.run_number-number in
     record {
       set_fit = set_fit a.plan.now a.images.now a.one.now a.two.now a.three.now a.four.now a.events.now a.answers.now
-        r.result r.ensures n.result n.ensures c.if-number-ne-ACCEPTED.false;
+          r.result r.ensures n.result n.ensures c.if-number-ne-ACCEPTED.false;
       room = room_enough a.plan.now a.images.now a.one.now a.two.now a.three.now a.four.now a.events.now a.answers.now
-        r.result r.ensures n.result n.ensures c.if-number-ne-ACCEPTED.false;
+          r.result r.ensures n.result n.ensures c.if-number-ne-ACCEPTED.false;
     }
 
 pub write_images-requires : goal.write_images-requires

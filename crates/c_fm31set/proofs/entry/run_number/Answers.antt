@@ -2,17 +2,15 @@
 -- The tests in their order, each way by its law.
 use mathlib.Core.Path.{◌≡◌, sym, ◌∙◌}
 use mathlib.Core.Bool.{true}
-use borrow.Author.Rules.{rules}
 use lib.Dec.{leb}
 use borrow.Author.Tests.{not-true, not-false, leb-true}
 use Rattle.wire.proofs.Tests.{and_split}
-use Rattle.set_event.specs.Set.{Together, most}
+use Rattle.set_event.specs.Set.{most}
 use Rattle.set_event.specs.Make.{is_lent, places_are, selects_differ, count_fits}
 use Rattle.set_event.specs.Outcome.{lent_to}
 use Rattle.set_run.specs.Run.{all_known}
 use Rattle.c_fm31set.proofs.Entries.{run_wrong_count, run_wrong_memory, run_wrong_state, run_unknown_event}
 use Rattle.c_fm31set.proofs.Entries.{run_short_answers, run_equal_selects, run_in_transfer, run_accepted}
--- the set, and what each test that was passed says
 use Rattle.c_fm31set.proofs.entry.run_number.Goals as goal
 
 pub returns-then-not-is_count : goal.returns-then-not-is_count

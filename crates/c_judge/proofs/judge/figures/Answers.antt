@@ -1,6 +1,5 @@
 -- SPDX-License-Identifier: Apache-2.0
 -- The four cases.
-use borrow.Author.Rules.{rules}
 use Rattle.c_judge.proofs.judge.figures.Goals as goal
 
 pub returns-in-Agree : goal.returns-in-Agree

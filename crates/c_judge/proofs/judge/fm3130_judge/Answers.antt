@@ -1,6 +1,5 @@
 -- SPDX-License-Identifier: Apache-2.0
 -- The figures of the verdict.
-use borrow.Author.Rules.{rules}
 use Rattle.c_judge.proofs.judge.fm3130_judge.Goals as goal
 
 pub returns : goal.returns

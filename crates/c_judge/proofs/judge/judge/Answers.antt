@@ -2,9 +2,7 @@
 -- The tests in their order; then the sections of a sound file, each accepted, and their replay.
 use Prim.Native.Nat.{ℕ}
 use mathlib.Core.Path.{◌≡◌, sym, ap, ◌∙◌}
-use mathlib.Core.List.{List}
 use lib.ListN.{length, length-replicate}
-use borrow.Author.Rules.{rules}
 use native.Mathlib.Omega.{arith}
 use Rattle.fm3130_image.specs.Code.Accepting.{is_image}
 use Rattle.fm3130_image.proofs.Accepts.{image_long}
@@ -14,7 +12,6 @@ use Rattle.capture_table.proofs.Finding.{inside}
 use Rattle.c_judge.specs.Verdict.{figures_of}
 use Rattle.c_judge.proofs.Verdicts.{verdict_too_long, verdict_faulty, image_good, memory_length, events_known}
 use Rattle.c_judge.proofs.Verdicts.{answers_inside, replay_done}
--- the file, once its table is known to have no fault, and that it has none
 use Rattle.c_judge.proofs.judge.judge.Goals as goal
 
 pub returns-then-file-gt-LIMIT : goal.returns-then-file-gt-LIMIT

@@ -1,9 +1,8 @@
 -- SPDX-License-Identifier: Apache-2.0
 -- The loop's invariant: what is left of the two, compared from here, gives the whole verdict. The measure is what is left.
-use Prim.Native.Nat.{ℕ, ◌+◌, ◌≤◌, ◌-◌}
+use Prim.Native.Nat.{ℕ, ◌+◌, ◌-◌}
 use mathlib.Core.Path.{◌≡◌, ap, ◌∙◌}
 use native.Mathlib.Omega.{arith}
-use lib.ListN.{length, drop}
 use borrow.Author.Rules.{rules}
 use Rattle.c_judge.specs.Verdict.{compared}
 use Rattle.c_judge.proofs.Replays.{beside_differs, beside_same, beside_end}

@@ -1,10 +1,10 @@
 -- SPDX-License-Identifier: Apache-2.0
 -- The loop's invariant: the bytes passed are those of the file, and the reader's place is the next one's. The measure is
 -- what is left.
-use Prim.Native.Nat.{◌+◌, ◌≤◌, ◌-◌}
-use mathlib.Core.Path.{◌≡◌, refl, sym, ◌∙◌}
+use Prim.Native.Nat.{◌-◌}
+use mathlib.Core.Path.{refl}
 use native.Mathlib.Omega.{arith}
-use lib.ListN.{length, take, drop, length-set}
+use lib.ListN.{length}
 use borrow.Author.Rules.{rules}
 use Rattle.bus_image.proofs.Lists.{copy_more, copy_done}
 use Rattle.c_judge.proofs.Replays.{section, part_length, found, stepped}

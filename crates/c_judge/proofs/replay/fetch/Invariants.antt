@@ -2,12 +2,9 @@
 -- The loop's invariant: the bytes passed are those of the file, and the reader's place is the next one's. The measure is
 -- what is left.
 use Prim.Native.Nat.{◌+◌, ◌≤◌, ◌-◌}
-use mathlib.Core.Path.{◌≡◌, refl, sym, ◌∙◌}
-use native.Mathlib.Omega.{arith}
-use lib.ListN.{length, take, drop, length-set}
-use borrow.Author.Rules.{rules}
-use Rattle.bus_image.proofs.Lists.{copy_more, copy_done}
-use Rattle.c_judge.proofs.Replays.{section, part_length, found, stepped}
+use mathlib.Core.Path.{◌≡◌}
+use lib.ListN.{length, take}
+use Rattle.c_judge.proofs.Replays.{section}
 use Rattle.c_judge.proofs.replay.fetch.Given as goal
 
 abbrev pub invariant-loop-i : goal.invariant-loop-i

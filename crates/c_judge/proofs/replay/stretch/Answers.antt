@@ -1,13 +1,10 @@
 -- SPDX-License-Identifier: Apache-2.0
 -- What was fetched is the section's stretch, and its events are known; the answers that the run leaves are all of what was
 -- given, and the recorded ones beside them are a part of the file.
-use Prim.Native.Nat.{ℕ, ◌+◌, ◌-◌, ◌≤◌, ◌<◌}
-use mathlib.Core.Path.{◌≡◌, refl, sym, ap, ◌∙◌}
-use mathlib.Core.List.{List}
+use Prim.Native.Nat.{◌+◌, ◌-◌}
+use mathlib.Core.Path.{◌≡◌, sym, ◌∙◌}
 use native.Mathlib.Omega.{arith}
-use lib.ListN.{length, take, drop}
-use borrow.Author.Rules.{rules}
-use Rattle.fm3130_list.specs.Run.{all_known}
+use lib.ListN.{length}
 use Rattle.c_judge.proofs.Replays.{section, part_length, judged_beside}
 use Rattle.c_judge.proofs.replay.stretch.Goals as goal
 

@@ -1,10 +1,9 @@
 -- SPDX-License-Identifier: Apache-2.0
 -- The room is as long as the stretch.
 use Prim.Native.Nat.{ℕ}
-use mathlib.Core.Path.{◌≡◌, refl, sym, ap, ◌∙◌}
+use mathlib.Core.Path.{refl, sym, ap, ◌∙◌}
 use native.Mathlib.Omega.{arith}
 use lib.ListN.{take, drop}
-use borrow.Author.Rules.{rules}
 use Rattle.fm3130_list.specs.Run.{all_known}
 use Rattle.c_judge.proofs.Replays.{room_length, judged_as}
 use Rattle.c_judge.proofs.replay.with_room.Goals as goal

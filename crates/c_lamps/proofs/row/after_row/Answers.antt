@@ -1,7 +1,6 @@
 -- SPDX-License-Identifier: Apache-2.0
 -- `c_lamps::row::after_row` meets its contract.
 use borrow.Author.Tests.{ne_eqb, eq-eqb}
-use borrow.Author.Rules.{rules}
 use Rattle.c_lamps.proofs.row.after_row.Goals as goal
 
 pub returns-then-number-ne7 : goal.returns-then-number-ne7

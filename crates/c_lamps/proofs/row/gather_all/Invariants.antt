@@ -2,12 +2,9 @@
 -- The loop's invariant: what is left of the answers, gathered from here, gives what all give. The measure is how many are
 -- left.
 use Prim.Native.Nat.{◌+◌, ◌-◌, ◌≤◌}
-use mathlib.Core.Path.{◌≡◌, refl, ◌∙◌}
-use native.Mathlib.Omega.{arith}
+use mathlib.Core.Path.{◌≡◌}
 use lib.ListN.{length, drop}
-use borrow.Author.Rules.{rules}
 use Rattle.c_lamps.specs.Row.{gathered_over}
-use Rattle.c_lamps.proofs.Rows.{over_more, over_all}
 use Rattle.c_lamps.proofs.row.gather_all.Given as goal
 
 abbrev pub invariant-loop-i : goal.invariant-loop-i

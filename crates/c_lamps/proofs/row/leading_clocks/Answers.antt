@@ -1,10 +1,7 @@
 -- SPDX-License-Identifier: Apache-2.0
 -- The loop's invariant: all events so far are Clocks. The measure is what is left to the bound.
-use Prim.Native.Nat.{ℕ, ◌-◌, ◌/◌, ◌<◌, ◌≤◌}
-use mathlib.Core.Path.{◌≡◌}
+use Prim.Native.Nat.{◌-◌}
 use native.Mathlib.Omega.{arith}
-use lib.ListN.{get_or}
-use borrow.Author.Rules.{rules}
 use Rattle.c_lamps.proofs.Rows.{clocks_front, clocks_more}
 use Rattle.c_lamps.proofs.row.leading_clocks.Goals as goal
 

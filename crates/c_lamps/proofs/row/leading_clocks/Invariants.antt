@@ -2,10 +2,7 @@
 -- The loop's invariant: all events so far are Clocks. The measure is what is left to the bound.
 use Prim.Native.Nat.{ℕ, ◌-◌, ◌/◌, ◌<◌, ◌≤◌}
 use mathlib.Core.Path.{◌≡◌}
-use native.Mathlib.Omega.{arith}
 use lib.ListN.{get_or}
-use borrow.Author.Rules.{rules}
-use Rattle.c_lamps.proofs.Rows.{clocks_front, clocks_more}
 use Rattle.c_lamps.proofs.row.leading_clocks.Given as goal
 
 abbrev pub invariant-loop-i : goal.invariant-loop-i

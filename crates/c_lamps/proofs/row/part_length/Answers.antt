@@ -1,7 +1,6 @@
 -- SPDX-License-Identifier: Apache-2.0
 -- More than one event is a part only where they are Clocks of one byte before its ninth.
 use native.Mathlib.Omega.{arith}
-use borrow.Author.Rules.{rules}
 use Rattle.fm3130_image.proofs.Accepts.{image_long}
 use Rattle.c_lamps.proofs.Rows.{clocks_lain}
 use Rattle.c_lamps.proofs.row.part_length.Goals as goal

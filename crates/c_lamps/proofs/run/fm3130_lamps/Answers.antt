@@ -3,7 +3,6 @@
 use mathlib.Core.Bool.{true}
 use mathlib.Core.Path.{◌≡◌, sym, ◌∙◌}
 use lib.ListN.{length}
-use borrow.Author.Tests.{not-true, not-false}
 use Rattle.fm3130.specs.Chip.{memory_size}
 use Rattle.fm3130_image.specs.Code.Accepting.{is_image}
 use Rattle.fm3130_image.proofs.Accepts.{image_read, image_not_read}
@@ -11,7 +10,6 @@ use Rattle.fm3130_list.specs.Run.{all_known}
 use Rattle.lamps_bytes.specs.Kept.{is_kept}
 use Rattle.lamps_bytes.proofs.Bytes.{kept_length}
 use Rattle.c_lamps.proofs.Loop.{wrong_memory_lem, wrong_image, wrong_kept, unknown_event_lem, short_answers_lem, all_done}
-use borrow.Author.Rules.{rules}
 use Rattle.c_lamps.proofs.run.fm3130_lamps.Goals as goal
 
 pub returns-then-memory-ne-MEMORY : goal.returns-then-memory-ne-MEMORY

@@ -6,7 +6,7 @@ use native.Mathlib.Omega.{arith}
 use lib.ListN.{length}
 use Rattle.fm3130_image.specs.Image.{candidate}
 use Rattle.fm3130_image.proofs.Accepts.{image_long}
-use Rattle.c_lamps.proofs.Parts.{part_length, part_known, some_left, part_inside, part_row, Upto, upto_none, upto_all, upto_next}
+use Rattle.c_lamps.proofs.Parts.{part_length, part_known, some_left, part_inside, part_row, upto_none, upto_all, upto_next}
 use Rattle.c_lamps.proofs.run.follow_in_parts.Goals as goal
 
 pub loop-i-init : goal.loop-i-init

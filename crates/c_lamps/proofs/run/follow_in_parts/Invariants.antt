@@ -1,12 +1,9 @@
 -- SPDX-License-Identifier: Apache-2.0
 -- The loop's invariant: so many events are done, on an accepted image. The measure is what is left.
-use Prim.Native.Nat.{ℕ, ◌+◌, ◌-◌, ◌≤◌}
-use mathlib.Core.Path.{◌≡◌, sym, ◌∙◌}
-use native.Mathlib.Omega.{arith}
+use Prim.Native.Nat.{◌-◌}
 use lib.ListN.{length}
 use Rattle.fm3130_image.specs.Image.{candidate}
-use Rattle.fm3130_image.proofs.Accepts.{image_long}
-use Rattle.c_lamps.proofs.Parts.{part_length, part_known, some_left, part_inside, part_row, Upto, upto_none, upto_all, upto_next}
+use Rattle.c_lamps.proofs.Parts.{Upto}
 use Rattle.c_lamps.proofs.run.follow_in_parts.Given as goal
 
 abbrev pub invariant-loop-i : goal.invariant-loop-i

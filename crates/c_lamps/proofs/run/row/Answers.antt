@@ -3,7 +3,6 @@
 use mathlib.Core.Path.{ap, ◌∙◌}
 use native.Mathlib.Omega.{arith}
 use lib.ListN.{length}
-use borrow.Author.Rules.{rules}
 use Rattle.fm3130_image.proofs.Accepts.{image_long}
 use Rattle.fm3130_image.proofs.Images.{image_length}
 use Rattle.c_lamps.proofs.Rows.{clocks_lain, answers_long, row_done}

@@ -6,7 +6,6 @@ use mathlib.Core.Path.{sym}
 use native.Mathlib.Omega.{arith}
 use Rattle.wire_clocks.proofs.Laying.{laid_then, asked_on_length}
 use Rattle.c_master.proofs.Ways.{read_too_many, read_none, read_address, read_room, read_done, read_laid}
-use borrow.Author.Rules.{rules}
 use Rattle.c_master.proofs.events.fm3130_read_events.Goals as goal
 
 pub returns-then-count-gt-MOST : goal.returns-then-count-gt-MOST

@@ -6,7 +6,6 @@ use native.Mathlib.Omega.{arith}
 use Rattle.wire_clocks.specs.Events.{write_events}
 use Rattle.wire_clocks.proofs.Laying.{laid_then, written_length}
 use Rattle.c_master.proofs.Ways.{write_too_many, write_address, write_room, write_done}
-use borrow.Author.Rules.{rules}
 use Rattle.c_master.proofs.events.fm3130_write_events.Goals as goal
 
 pub returns-then-bytes-gt-MOST : goal.returns-then-bytes-gt-MOST

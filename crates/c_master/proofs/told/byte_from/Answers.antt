@@ -1,6 +1,5 @@
 -- SPDX-License-Identifier: Apache-2.0
 -- `c_master::told::byte_from` meets its contract: eight bits, one after another.
-use borrow.Author.Rules.{rules}
 use Rattle.c_master.proofs.told.byte_from.Goals as goal
 
 pub returns : goal.returns

@@ -1,6 +1,5 @@
 -- SPDX-License-Identifier: Apache-2.0
 -- `c_master::told::flag` meets its contract: both tests in one.
-use borrow.Author.Rules.{rules}
 use Rattle.c_master.proofs.told.flag.Goals as goal
 
 pub returns-then-ready-is_low : goal.returns-then-ready-is_low

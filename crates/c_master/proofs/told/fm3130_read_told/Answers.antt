@@ -1,10 +1,8 @@
 -- SPDX-License-Identifier: Apache-2.0
 -- `c_master::told::fm3130_read_told` meets its contract: the tests in the order of the numbers, each way by its law; then the bytes, or
 -- none.
-use borrow.Author.Tests.{not-true, not-false}
 use mathlib.Core.Path.{sym, ◌∙◌}
 use Rattle.c_master.proofs.Ways.{read_told_too_many, read_told_none, read_told_room, read_told_answers, read_told_shut, read_told_done}
-use borrow.Author.Rules.{rules}
 use Rattle.c_master.proofs.told.fm3130_read_told.Goals as goal
 
 pub returns-then-count-gt-MOST : goal.returns-then-count-gt-MOST

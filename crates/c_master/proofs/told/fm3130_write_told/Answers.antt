@@ -2,7 +2,6 @@
 -- `c_master::told::fm3130_write_told` meets its contract: the tests in the order of the numbers, each way by its law; then the flags.
 use mathlib.Core.Path.{sym, ◌∙◌}
 use Rattle.c_master.proofs.Ways.{write_told_too_many, write_told_room, write_told_answers, write_told_done}
-use borrow.Author.Rules.{rules}
 use Rattle.c_master.proofs.told.fm3130_write_told.Goals as goal
 
 pub returns-then-count-gt-MOST : goal.returns-then-count-gt-MOST

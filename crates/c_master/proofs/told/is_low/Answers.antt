@@ -1,6 +1,5 @@
 -- SPDX-License-Identifier: Apache-2.0
 -- `c_master::told::is_low` meets its contract: a line that is not high.
-use borrow.Author.Rules.{rules}
 use Rattle.c_master.proofs.told.is_low.Goals as goal
 
 pub returns : goal.returns

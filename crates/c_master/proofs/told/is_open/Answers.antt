@@ -1,6 +1,5 @@
 -- SPDX-License-Identifier: Apache-2.0
 -- `c_master::told::is_open` meets its contract: three acknowledges.
-use borrow.Author.Rules.{rules}
 use Rattle.c_master.proofs.told.is_open.Goals as goal
 
 pub returns : goal.returns

@@ -1,6 +1,5 @@
 -- SPDX-License-Identifier: Apache-2.0
 -- `c_master::told::is_open_read` meets its contract: one acknowledge more.
-use borrow.Author.Rules.{rules}
 use Rattle.c_master.proofs.told.is_open_read.Goals as goal
 
 pub returns : goal.returns

@@ -1,12 +1,10 @@
 -- SPDX-License-Identifier: Apache-2.0
 -- `c_master::told::put_flags` meets its contract: the flags so far stand at the front of the buffer.
-use Prim.Native.Nat.{◌≤◌, ◌-◌}
+use Prim.Native.Nat.{◌-◌}
 use mathlib.Core.Path.{◌≡◌}
 use native.Mathlib.Omega.{arith}
-use lib.ListN.{length}
-use lib.Seq.{sets}
 use Rattle.wire_clocks.specs.Clocks.{lines_of}
-use Rattle.c_master.specs.Told.{list_of, flag_at}
+use Rattle.c_master.specs.Told.{flag_at}
 use Rattle.c_master.proofs.Listing.{listed_more}
 use borrow.Author.Rules.{rules}
 use Rattle.c_master.proofs.told.put_flags.Goals as goal

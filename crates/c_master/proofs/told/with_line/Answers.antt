@@ -1,6 +1,5 @@
 -- SPDX-License-Identifier: Apache-2.0
 -- `c_master::told::with_line` meets its contract: one bit more.
-use borrow.Author.Rules.{rules}
 use Rattle.c_master.proofs.told.with_line.Goals as goal
 
 pub returns : goal.returns

@@ -2,7 +2,6 @@
 -- The two ways to be refused, and the ask that is answered, each by its law.
 use mathlib.Core.Path.{sym, ◌∙◌}
 use borrow.Author.Rules.{rules}
-use borrow.Author.Tests.{not-true, not-false}
 use Rattle.masters_hold.proofs.Known.{one_byte, one_set}
 use Rattle.c_masters.proofs.Ways.{ask_unknown, ask_refused, ask_answered}
 use Rattle.c_masters.proofs.entries.fm3130_ask.Goals as goal

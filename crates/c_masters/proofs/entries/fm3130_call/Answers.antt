@@ -3,8 +3,6 @@
 use mathlib.Core.Bool.{true}
 use mathlib.Core.Path.{◌≡◌, sym, ◌∙◌}
 use lib.ListN.{length}
-use borrow.Author.Rules.{rules}
-use borrow.Author.Tests.{not-true, not-false}
 use Rattle.fm3130.specs.Chip.{memory_size}
 use Rattle.fm3130_image.specs.Code.Accepting.{is_image}
 use Rattle.fm3130_image.proofs.Accepts.{image_read, image_not_read}
@@ -14,7 +12,6 @@ use Rattle.masters_hold.specs.Bus.{may_call, standing_of}
 use Rattle.masters_hold.proofs.Known.{one_byte}
 use Rattle.c_masters.proofs.Ways.{call_wrong_memory, call_wrong_image, call_unknown, call_unknown_event}
 use Rattle.c_masters.proofs.Ways.{call_not_held, call_short_answers, call_done}
--- where the image is accepted, and the memory has its length
 use Rattle.c_masters.proofs.entries.fm3130_call.Goals as goal
 
 pub returns-then-memory-ne-MEMORY : goal.returns-then-memory-ne-MEMORY

@@ -1,12 +1,8 @@
 -- SPDX-License-Identifier: Apache-2.0
 -- `c_mend::changes::count_changes` meets its contract. The loop's invariant: what was counted and the count of what is still
 -- to come are the whole count. The measure is what is left.
-use Prim.Native.Nat.{◌≤◌, ◌-◌, ◌+◌}
-use mathlib.Core.Path.{◌≡◌}
+use Prim.Native.Nat.{◌-◌}
 use native.Mathlib.Omega.{arith}
-use lib.ListN.{length, drop}
-use borrow.Author.Rules.{rules}
-use Rattle.c_mend.specs.Changes.{changed_count}
 use Rattle.c_mend.proofs.Listing.{count_step, count_end}
 use Rattle.c_mend.proofs.changes.count_changes.Goals as goal
 

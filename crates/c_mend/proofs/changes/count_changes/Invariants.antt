@@ -3,11 +3,8 @@
 -- to come are the whole count. The measure is what is left.
 use Prim.Native.Nat.{◌≤◌, ◌-◌, ◌+◌}
 use mathlib.Core.Path.{◌≡◌}
-use native.Mathlib.Omega.{arith}
 use lib.ListN.{length, drop}
-use borrow.Author.Rules.{rules}
 use Rattle.c_mend.specs.Changes.{changed_count}
-use Rattle.c_mend.proofs.Listing.{count_step, count_end}
 use Rattle.c_mend.proofs.changes.count_changes.Given as goal
 
 abbrev pub invariant-loop-i : goal.invariant-loop-i

@@ -1,13 +1,13 @@
 -- SPDX-License-Identifier: Apache-2.0
 -- `c_mend::changes::write_changes` meets its contract. The loop's invariant: what was written and what is still to come are
 -- the whole list. The measure is what is left.
-use Prim.Native.Nat.{◌≤◌, ◌-◌, ◌+◌}
+use Prim.Native.Nat.{◌-◌, ◌+◌}
 use mathlib.Core.Path.{refl}
 use native.Mathlib.Omega.{arith}
-use lib.ListN.{length, drop, get_or}
+use lib.ListN.{drop, get_or}
 use borrow.Author.Rules.{rules}
 use Rattle.c_mend.specs.Changes.{change_of, changes_from}
-use Rattle.c_mend.proofs.Listing.{changes_more, changes_end, Going, going_room, going_more, going_end}
+use Rattle.c_mend.proofs.Listing.{changes_more, changes_end, going_room, going_more, going_end}
 use Rattle.c_mend.proofs.changes.write_changes.Goals as goal
 
 pub loop-i-init : goal.loop-i-init

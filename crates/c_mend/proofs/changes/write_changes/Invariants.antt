@@ -2,12 +2,9 @@
 -- `c_mend::changes::write_changes` meets its contract. The loop's invariant: what was written and what is still to come are
 -- the whole list. The measure is what is left.
 use Prim.Native.Nat.{◌≤◌, ◌-◌, ◌+◌}
-use mathlib.Core.Path.{refl}
-use native.Mathlib.Omega.{arith}
-use lib.ListN.{length, drop, get_or}
-use borrow.Author.Rules.{rules}
-use Rattle.c_mend.specs.Changes.{change_of, changes_from}
-use Rattle.c_mend.proofs.Listing.{changes_more, changes_end, Going, going_room, going_more, going_end}
+use lib.ListN.{length, drop}
+use Rattle.c_mend.specs.Changes.{changes_from}
+use Rattle.c_mend.proofs.Listing.{Going}
 use Rattle.c_mend.proofs.changes.write_changes.Given as goal
 
 abbrev pub invariant-loop-i : goal.invariant-loop-i

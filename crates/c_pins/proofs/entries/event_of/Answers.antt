@@ -1,6 +1,5 @@
 -- SPDX-License-Identifier: Apache-2.0
 use borrow.Author.Tests.{lt-ltb, le-ltb}
-use borrow.Author.Rules.{rules}
 use Rattle.c_pins.proofs.entries.event_of.Goals as goal
 
 pub returns-then-event-gt7 : goal.returns-then-event-gt7

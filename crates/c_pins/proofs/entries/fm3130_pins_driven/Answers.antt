@@ -1,6 +1,5 @@
 -- SPDX-License-Identifier: Apache-2.0
 use Rattle.c_pins.proofs.Words.{driven_word_lem}
-use borrow.Author.Rules.{rules}
 use Rattle.c_pins.proofs.entries.fm3130_pins_driven.Goals as goal
 
 pub returns : goal.returns

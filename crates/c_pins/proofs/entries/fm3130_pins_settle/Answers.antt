@@ -1,6 +1,5 @@
 -- SPDX-License-Identifier: Apache-2.0
 use Rattle.c_pins.proofs.Words.{settle_word}
-use borrow.Author.Rules.{rules}
 use Rattle.c_pins.proofs.entries.fm3130_pins_settle.Goals as goal
 
 pub returns : goal.returns

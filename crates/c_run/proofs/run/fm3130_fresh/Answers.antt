@@ -1,6 +1,5 @@
 -- SPDX-License-Identifier: Apache-2.0
 -- The two ways through the test of the length.
-use borrow.Author.Rules.{rules}
 use borrow.Author.Tests.{eq-eqb, ne_eqb}
 use Rattle.bus_list.specs.Fresh.{fresh_of}
 use Rattle.c_run.proofs.run.fm3130_fresh.Goals as goal

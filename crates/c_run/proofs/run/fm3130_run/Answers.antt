@@ -3,15 +3,12 @@
 use mathlib.Core.Bool.{true}
 use mathlib.Core.Path.{◌≡◌, sym, ◌∙◌}
 use lib.ListN.{length}
-use borrow.Author.Rules.{rules}
-use borrow.Author.Tests.{not-true, not-false}
 use Rattle.fm3130.specs.Chip.{memory_size}
 use Rattle.fm3130_image.specs.Code.Accepting.{is_image}
 use Rattle.fm3130_image.proofs.Accepts.{image_read, image_not_read}
 use Rattle.fm3130_list.specs.Run.{all_known}
 use Rattle.fm3130_list.proofs.Runs.{outcome_wrong_memory, outcome_wrong_image, outcome_unknown_event}
 use Rattle.fm3130_list.proofs.Runs.{outcome_short_answers, outcome_done}
--- where the image is accepted: so it is by the definition, and the memory has its length
 use Rattle.c_run.proofs.run.fm3130_run.Goals as goal
 
 pub returns-then-memory-ne-MEMORY : goal.returns-then-memory-ne-MEMORY

@@ -2,15 +2,10 @@
 -- The loop's invariant: the image is accepted, and the events so far lead from the first place to this one. The measure is
 -- what is left.
 use Prim.Native.Nat.{◌-◌}
-use mathlib.Core.Path.{◌≡◌, sym, ◌∙◌}
+use mathlib.Core.Path.{sym, ◌∙◌}
 use mathlib.Core.Bool.{true}
 use native.Mathlib.Omega.{arith}
-use lib.ListN.{length}
-use borrow.Author.Rules.{rules}
-use Rattle.fm3130_image.specs.Image.{candidate}
-use Rattle.fm3130_image.specs.Code.Accepting.{is_image}
 use Rattle.fm3130_image.proofs.Accepts.{image_long}
-use Rattle.place_rows.specs.Code.Led.{Led}
 use Rattle.place_rows.proofs.Ledger.{begun, led_on, led_through}
 use Rattle.c_run.proofs.run.run_events.Goals as goal
 

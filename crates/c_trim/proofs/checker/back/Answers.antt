@@ -1,7 +1,6 @@
 -- SPDX-License-Identifier: Apache-2.0
 -- `c_trim::checker::back` meets its contract: the test is the definition's.
 use mathlib.Core.Path.{sym, ap, ◌∙◌}
-use borrow.Author.Rules.{rules}
 use Rattle.c_trim.specs.declared.Sign.{Sign}
 use Rattle.c_trim.proofs.Nearest.{back_none, back_some}
 use Rattle.c_trim.proofs.checker.back.Goals as goal

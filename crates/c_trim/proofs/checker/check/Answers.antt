@@ -1,8 +1,6 @@
 -- SPDX-License-Identifier: Apache-2.0
 -- `c_trim::checker::check` meets its contract: each test is a case of the definition.
 use mathlib.Core.Path.{sym, ◌∙◌}
-use borrow.Author.Rules.{rules}
-use borrow.Author.Tests.{not-true, not-false}
 use Rattle.c_trim.proofs.Left.{range_read}
 use Rattle.c_trim.proofs.Unique.{clash, settled_accepted, settled_not_nearest}
 use Rattle.c_trim.proofs.Nearest.{nearest_read}

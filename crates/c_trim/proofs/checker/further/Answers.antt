@@ -1,7 +1,6 @@
 -- SPDX-License-Identifier: Apache-2.0
 -- `c_trim::checker::further` meets its contract: the test is the definition's.
 use mathlib.Core.Path.{sym}
-use borrow.Author.Rules.{rules}
 use Rattle.c_trim.proofs.Nearest.{further_inside, further_last}
 use Rattle.c_trim.proofs.checker.further.Goals as goal
 

@@ -1,7 +1,6 @@
 -- SPDX-License-Identifier: Apache-2.0
 -- `c_trim::entries::fm3130_trim_check` meets its contract: the number of the verdict on the setting that was named.
 use mathlib.Core.Path.{sym, ◌∙◌}
-use borrow.Author.Rules.{rules}
 use Rattle.c_trim.proofs.Numbers.{told_known, told_unknown}
 use Rattle.c_trim.proofs.entries.fm3130_trim_check.Goals as goal
 

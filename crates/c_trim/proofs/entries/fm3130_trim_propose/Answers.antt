@@ -1,7 +1,6 @@
 -- SPDX-License-Identifier: Apache-2.0
 -- `c_trim::entries::fm3130_trim_propose` meets its contract: what is proposed has a code of at most 31, so a number.
 use mathlib.Core.Path.{sym, ap, ◌∙◌}
-use borrow.Author.Rules.{rules}
 use Rattle.c_trim.specs.Proposal.{proposal_of}
 use Rattle.c_trim.specs.Entries.{proposal_number}
 use Rattle.c_trim.proofs.Signed.{read_back}

@@ -1,7 +1,6 @@
 -- SPDX-License-Identifier: Apache-2.0
 -- `c_trim::entries::fm3130_trim_residue` meets its contract: what the setting that was named leaves.
 use mathlib.Core.Path.{sym, ap, ◌∙◌}
-use borrow.Author.Rules.{rules}
 use Rattle.c_trim.specs.Entries.{named_residue}
 use Rattle.c_trim.proofs.Numbers.{residue_named}
 use Rattle.c_trim.proofs.entries.fm3130_trim_residue.Goals as goal

@@ -1,8 +1,6 @@
 -- SPDX-License-Identifier: Apache-2.0
 -- `c_trim::entries::residue_shown` meets its contract: the tests are the definition's.
 use mathlib.Core.Path.{sym, ◌∙◌}
-use borrow.Author.Rules.{rules}
-use borrow.Author.Tests.{not-true, not-false}
 use Rattle.c_trim.proofs.Signed.{read_result}
 use Rattle.c_trim.proofs.Left.{residue_read, range_read, left_small}
 use Rattle.c_trim.proofs.Numbers.{shown, shown_out_of_range, shown_above}

@@ -2,7 +2,6 @@
 -- `c_trim::entries::setting_number` meets its contract, sign by sign.
 use mathlib.Core.Path.{ap}
 use native.Mathlib.Omega.{arith}
-use borrow.Author.Rules.{rules}
 use Rattle.c_trim.specs.Entries.{sign_number}
 use Rattle.c_trim.proofs.entries.setting_number.Goals as goal
 

@@ -1,7 +1,6 @@
 -- SPDX-License-Identifier: Apache-2.0
 -- `c_trim::entries::verdict_number` meets its contract, verdict by verdict.
 use mathlib.Core.Path.{sym, ap}
-use borrow.Author.Rules.{rules}
 use Rattle.c_trim.specs.Entries.{verdict_number}
 use Rattle.c_trim.proofs.entries.verdict_number.Goals as goal
 

@@ -1,7 +1,6 @@
 -- SPDX-License-Identifier: Apache-2.0
 -- `c_trim::proposer::propose` meets its contract: the test is the definition's.
 use mathlib.Core.Path.{sym, ap, ◌∙◌}
-use borrow.Author.Rules.{rules}
 use Rattle.c_trim.specs.Proposal.{setting_for}
 use Rattle.c_trim.specs.declared.Proposal.TheVariants.{Proposed}
 use Rattle.c_trim.proofs.Signed.{read_back}

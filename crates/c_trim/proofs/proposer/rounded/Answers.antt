@@ -1,7 +1,6 @@
 -- SPDX-License-Identifier: Apache-2.0
 -- `c_trim::proposer::rounded` meets its contract: the test is the definition's.
 use mathlib.Core.Path.{sym}
-use borrow.Author.Rules.{rules}
 use Rattle.c_trim.proofs.Proposals.{rounded_past, rounded_within}
 use Rattle.c_trim.proofs.proposer.rounded.Goals as goal
 

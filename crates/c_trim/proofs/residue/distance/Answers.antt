@@ -6,7 +6,6 @@ use lib.IntN.{pos, ◌-ℤ◌, nat_abs}
 use mir.Syntax.{w32}
 use mir.Val.{SFits}
 use mir.Facts.{Fits-nat_abs}
-use borrow.Author.Rules.{rules}
 use Rattle.c_trim.proofs.Signed.{distance_negated, negated_nonneg, nonneg_of_not_less, natabs_distance}
 use Rattle.c_trim.proofs.Signed.{fits_of_distance, read_back, read_negation, read_test}
 use Rattle.c_trim.proofs.residue.distance.Goals as goal

@@ -2,7 +2,6 @@
 -- `c_trim::residue::distance_left` meets its contract: what is left of an error in range is small, so its distance can be
 -- taken.
 use mathlib.Core.Path.{ap, ◌∙◌}
-use borrow.Author.Rules.{rules}
 use Rattle.c_trim.specs.Residue.{distance_of}
 use Rattle.c_trim.proofs.Signed.{read_result}
 use Rattle.c_trim.proofs.Left.{residue_read, left_small}

@@ -2,7 +2,6 @@
 -- `c_trim::residue::residue` meets its contract: the sum or difference is small, so it fits an i32.
 use mathlib.Core.Path.{sym, ap, ◌∙◌}
 use native.Mathlib.Omega.{arith}
-use borrow.Author.Rules.{rules}
 use Rattle.c_trim.specs.Residue.{trimmed, residue_of}
 use Rattle.c_trim.specs.declared.Sign.{Sign}
 use Rattle.c_trim.proofs.Signed.{read_back, read_sum, read_difference}

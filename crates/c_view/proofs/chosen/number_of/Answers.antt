@@ -1,7 +1,6 @@
 -- SPDX-License-Identifier: Apache-2.0
 -- The tests in the order of the numbers, each way by its law.
 use mathlib.Core.Path.{sym, ◌∙◌}
-use borrow.Author.Rules.{rules}
 use Rattle.c_view.proofs.Views.{view_wrong_memory, view_wrong_image, view_memory, view_registers, view_unknown}
 use Rattle.c_view.proofs.chosen.number_of.Goals as goal
 

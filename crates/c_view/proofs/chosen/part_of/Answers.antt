@@ -1,13 +1,9 @@
 -- SPDX-License-Identifier: Apache-2.0
 -- Where the number is 0 the part lies inside the chosen bytes; else it is an empty part of memory.
-use mathlib.Core.Path.{◌≡◌, refl, sym, ◌∙◌}
+use mathlib.Core.Path.{refl, sym, ◌∙◌}
 use native.Mathlib.Omega.{arith}
-use Prim.Native.Nat.{ℕ}
 use borrow.Author.Rules.{rules}
-use Rattle.numbers.specs.Numbers.{accepted}
-use Rattle.c_view.specs.View.{view_number}
 use Rattle.c_view.proofs.Views.{memory_part, registers_part, registers_count, part_of_memory, part_of_registers, no_part}
--- the number, and that it was 0
 use Rattle.c_view.proofs.chosen.part_of.Goals as goal
 
 pub returns-then-number_of-ne-ACCEPTED : goal.returns-then-number_of-ne-ACCEPTED

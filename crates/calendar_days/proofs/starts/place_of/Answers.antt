@@ -6,7 +6,6 @@ use Prim.Native.Nat.{ℕ, ◌-◌, ◌<◌, ◌≤◌}
 use native.Mathlib.Omega.{arith}
 use Rattle.calendar.specs.Instant.{month_start}
 use Rattle.calendar_days.proofs.Months.{share_of, in_share, share_some, before_share, stands_found}
--- the test was of the start of the month of the share
 use Rattle.calendar_days.proofs.starts.place_of.Goals as goal
 use Rattle.calendar_days.proofs.starts.place_of.Goals.{Then-day-start}
 

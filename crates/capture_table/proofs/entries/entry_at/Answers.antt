@@ -1,6 +1,5 @@
 -- SPDX-License-Identifier: Apache-2.0
 -- Three numbers.
-use borrow.Author.Rules.{rules}
 use Rattle.capture_table.specs.Table.{entry_at}
 use Rattle.capture_table.proofs.entries.entry_at.Goals as goal
 

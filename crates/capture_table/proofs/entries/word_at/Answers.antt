@@ -1,6 +1,5 @@
 -- SPDX-License-Identifier: Apache-2.0
 -- Four bytes, joined.
-use borrow.Author.Rules.{rules}
 use Rattle.capture_table.specs.Table.{word_at}
 use Rattle.capture_table.proofs.entries.word_at.Goals as goal
 

@@ -1,7 +1,6 @@
 -- SPDX-License-Identifier: Apache-2.0
 -- A part by its kind.
 use mathlib.Core.Path.{◌∙◌}
-use borrow.Author.Rules.{rules}
 use borrow.Author.Tests.{eq-eqb, ne_eqb}
 use Rattle.fm3130_image.proofs.Images.{settled_decode}
 use Rattle.capture_table.specs.Table.{is_accepted}

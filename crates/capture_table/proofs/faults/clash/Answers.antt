@@ -1,7 +1,6 @@
 -- SPDX-License-Identifier: Apache-2.0
 -- The tests one by one.
 use mathlib.Core.Path.{sym, ◌∙◌}
-use borrow.Author.Rules.{rules}
 use borrow.Author.Tests.{lt-leb, le-leb, eq-eqb, ne_eqb}
 use Rattle.capture_table.specs.Table.{clashes}
 use Rattle.capture_table.proofs.faults.clash.Goals as goal

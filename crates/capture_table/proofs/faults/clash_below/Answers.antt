@@ -1,6 +1,6 @@
 -- SPDX-License-Identifier: Apache-2.0
 -- The loop's invariant: what was seen of the entries passed. The measure is what is left.
-use Prim.Native.Nat.{◌≤◌, ◌-◌}
+use Prim.Native.Nat.{◌-◌}
 use mathlib.Core.Path.{◌≡◌, ap, ◌∙◌}
 use borrow.Author.Rules.{rules}
 use native.Mathlib.Omega.{arith}

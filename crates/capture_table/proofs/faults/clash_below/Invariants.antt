@@ -1,11 +1,8 @@
 -- SPDX-License-Identifier: Apache-2.0
 -- The loop's invariant: what was seen of the entries passed. The measure is what is left.
 use Prim.Native.Nat.{◌≤◌, ◌-◌}
-use mathlib.Core.Path.{◌≡◌, ap, ◌∙◌}
-use borrow.Author.Rules.{rules}
-use native.Mathlib.Omega.{arith}
+use mathlib.Core.Path.{◌≡◌}
 use Rattle.capture_table.specs.Table.{clashes_below}
-use Rattle.capture_table.proofs.Sound.{clash_more}
 use Rattle.capture_table.proofs.faults.clash_below.Given as goal
 
 abbrev pub invariant-loop-i : goal.invariant-loop-i

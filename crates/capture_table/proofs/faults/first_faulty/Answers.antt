@@ -1,8 +1,6 @@
 -- SPDX-License-Identifier: Apache-2.0
 -- The four tests.
 use mathlib.Core.Path.{sym, ◌∙◌}
-use borrow.Author.Rules.{rules}
-use borrow.Author.Tests.{not-true, not-false}
 use Rattle.capture_table.specs.Sections.{first_faulty}
 use Rattle.capture_table.proofs.faults.first_faulty.Goals as goal
 

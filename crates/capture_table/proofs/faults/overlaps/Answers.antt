@@ -1,7 +1,6 @@
 -- SPDX-License-Identifier: Apache-2.0
 -- The tests one by one.
 use Prim.Native.Nat.{◌+◌}
-use borrow.Author.Rules.{rules}
 use native.Mathlib.Omega.{arith}
 use borrow.Author.Tests.{lt-ltb, le-ltb}
 use Rattle.capture_table.specs.Table.{overlap}

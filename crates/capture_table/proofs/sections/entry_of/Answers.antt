@@ -1,9 +1,6 @@
 -- SPDX-License-Identifier: Apache-2.0
 -- The tests one by one; in a sound file the whole table is there.
-use Prim.Native.Nat.{◌≤◌}
-use lib.ListN.{length}
 use borrow.Author.Rules.{rules}
-use Rattle.capture_table.specs.Table.{table_size}
 use Rattle.capture_table.proofs.Finding.{table_fits, isnt, of_first, of_second, of_third, of_fourth}
 use Rattle.capture_table.proofs.sections.entry_of.Goals as goal
 

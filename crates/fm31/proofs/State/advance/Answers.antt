@@ -1,7 +1,6 @@
 -- SPDX-License-Identifier: Apache-2.0
 -- `fm31::State::advance` meets its contract. The law `split` of `bus` puts the two halves together.
 use Rattle.fm31.proofs.Advance.{advanced}
-use borrow.Author.Rules.{rules}
 use Rattle.fm31.proofs.State.advance.Goals as goal
 
 pub returns : goal.returns

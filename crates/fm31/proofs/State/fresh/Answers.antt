@@ -1,6 +1,5 @@
 -- SPDX-License-Identifier: Apache-2.0
 -- `fm31::State::fresh` meets its contract. Main power, no transfer, and the fresh companion.
-use borrow.Author.Rules.{rules}
 use Rattle.fm31.proofs.State.fresh.Goals as goal
 
 pub returns : goal.returns

@@ -2,7 +2,6 @@
 -- `fm31::State::step` meets its contract. The tests in the order of the numbers.
 use mathlib.Core.Path.{sym, ◌∙◌}
 use Rattle.fm31.proofs.Entry.{ready, step_wrong_memory, step_wrong_state, step_unknown_event, step_answered}
-use borrow.Author.Rules.{rules}
 use Rattle.fm31.proofs.State.step.Goals as goal
 
 pub returns-then-memory-size : goal.returns-then-memory-size

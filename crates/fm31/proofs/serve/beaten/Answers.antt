@@ -1,6 +1,5 @@
 -- SPDX-License-Identifier: Apache-2.0
 -- `fm31::serve::beaten` meets its contract. A tick leaves all as it is; an edge goes to its counter.
-use borrow.Author.Rules.{rules}
 use Rattle.fm31.proofs.serve.beaten.Goals as goal
 
 pub returns-in-Second : goal.returns-in-Second

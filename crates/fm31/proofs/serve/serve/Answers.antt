@@ -1,6 +1,5 @@
 -- SPDX-License-Identifier: Apache-2.0
 -- `fm31::serve::serve` meets its contract. Deed by deed.
-use borrow.Author.Rules.{rules}
 use Rattle.fm31.proofs.serve.serve.Goals as goal
 
 pub returns-in-Nothing : goal.returns-in-Nothing

@@ -1,7 +1,6 @@
 -- SPDX-License-Identifier: Apache-2.0
 -- What `tell` leaves, without the field that it says.
 use mathlib.Core.Path.{refl}
-use borrow.Author.Rules.{rules}
 use Rattle.fm3130.proofs.State.advance.Goals as goal
 
 pub returns : goal.returns

@@ -1,7 +1,6 @@
 -- SPDX-License-Identifier: Apache-2.0
 -- The answer byte: twice what the pin shows, and the line.
 use native.Mathlib.Omega.{arith}
-use borrow.Author.Rules.{rules}
 use Rattle.fm3130.proofs.State.answer.Goals as goal
 
 pub returns-then-line : goal.returns-then-line

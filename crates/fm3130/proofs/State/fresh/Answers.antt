@@ -1,6 +1,5 @@
 -- SPDX-License-Identifier: Apache-2.0
 -- The fresh state.
-use borrow.Author.Rules.{rules}
 use Rattle.fm3130.proofs.State.fresh.Goals as goal
 
 pub returns : goal.returns

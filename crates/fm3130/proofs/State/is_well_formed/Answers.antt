@@ -1,7 +1,6 @@
 -- SPDX-License-Identifier: Apache-2.0
 -- The limits of a state, one by one.
 use mathlib.Core.Path.{◌∙◌}
-use borrow.Author.Rules.{rules}
 use Rattle.fm3130.specs.Limits.{well_formed}
 use Rattle.fm3130.proofs.Entry.{lone_phase}
 use Rattle.fm3130.proofs.State.is_well_formed.Goals as goal

@@ -2,7 +2,6 @@
 -- The entry: each way through its tests, in the order of the numbers.
 use mathlib.Core.Path.{sym, ◌∙◌}
 use native.Mathlib.Omega.{arith}
-use borrow.Author.Rules.{rules}
 use Rattle.fm3130.proofs.Entry.{ready, step_wrong_memory, step_wrong_state, step_unknown_event, step_answered}
 use Rattle.fm3130.proofs.State.step.Goals as goal
 

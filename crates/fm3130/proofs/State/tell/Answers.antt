@@ -1,7 +1,6 @@
 -- SPDX-License-Identifier: Apache-2.0
 -- `fm3130::State::tell` meets its contract. The law `told` puts the companion's half and the bus's together.
 use native.Mathlib.Omega.{arith}
-use borrow.Author.Rules.{rules}
 use Rattle.fm3130.proofs.Telling.{bus_ready, told}
 use Rattle.fm3130.proofs.State.tell.Goals as goal
 

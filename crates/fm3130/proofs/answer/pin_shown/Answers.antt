@@ -2,7 +2,6 @@
 -- The pin is the companion's while a supply is present.
 use mathlib.Core.Path.{refl}
 use native.Mathlib.Omega.{arith}
-use borrow.Author.Rules.{rules}
 use Rattle.fm3130.proofs.answer.pin_shown.Goals as goal
 
 pub returns-in-On : goal.returns-in-On

@@ -1,6 +1,5 @@
 -- SPDX-License-Identifier: Apache-2.0
 -- `fm3130::serve::serve` meets its contract. Deed by deed.
-use borrow.Author.Rules.{rules}
 use Rattle.fm3130.proofs.serve.serve.Goals as goal
 
 pub returns-in-Nothing : goal.returns-in-Nothing

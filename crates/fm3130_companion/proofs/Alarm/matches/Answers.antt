@@ -1,6 +1,5 @@
 -- SPDX-License-Identifier: Apache-2.0
 -- `fm3130_companion::Alarm::matches` meets its contract. The five comparisons, joined as in `matches`.
-use borrow.Author.Rules.{rules}
 use Rattle.fm3130_companion.proofs.Alarm.matches.Goals as goal
 
 pub returns : goal.returns

@@ -1,6 +1,5 @@
 -- SPDX-License-Identifier: Apache-2.0
 -- `fm3130_companion::Companion::aim` meets its contract. A byte at most 0Eh is taken, another is refused.
-use borrow.Author.Rules.{rules}
 use borrow.Author.Tests.{le-leb, lt-leb}
 use Rattle.fm3130_companion.specs.Part.{aim_of}
 use Rattle.fm3130_companion.proofs.Companion.aim.Goals as goal

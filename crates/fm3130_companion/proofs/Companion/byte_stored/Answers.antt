@@ -1,6 +1,5 @@
 -- SPDX-License-Identifier: Apache-2.0
 -- `fm3130_companion::Companion::byte_stored` meets its contract. The register at the address takes the stored bits.
-use borrow.Author.Rules.{rules}
 use mathlib.Core.Path.{◌∙◌, ap}
 use Rattle.fm3130_companion.specs.Registers.{put_at}
 use Rattle.fm3130_companion.specs.Change.{with_registers}

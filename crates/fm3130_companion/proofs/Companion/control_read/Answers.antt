@@ -1,6 +1,5 @@
 -- SPDX-License-Identifier: Apache-2.0
 -- `fm3130_companion::Companion::control_read` meets its contract. 00h takes its flags as the read leaves them.
-use borrow.Author.Rules.{rules}
 use Rattle.fm3130_companion.proofs.Companion.control_read.Goals as goal
 
 pub returns : goal.returns

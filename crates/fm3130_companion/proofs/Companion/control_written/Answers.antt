@@ -1,7 +1,6 @@
 -- SPDX-License-Identifier: Apache-2.0
 -- `fm3130_companion::Companion::control_written` meets its contract. 00h, 02h to 08h and the core as the three calls give
 -- them.
-use borrow.Author.Rules.{rules}
 use Rattle.fm3130_companion.proofs.Companion.control_written.Goals as goal
 
 pub returns : goal.returns

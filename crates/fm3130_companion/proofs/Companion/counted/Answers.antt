@@ -1,6 +1,5 @@
 -- SPDX-License-Identifier: Apache-2.0
 -- `fm3130_companion::Companion::counted` meets its contract. 00h, 02h to 08h and the core as the calls give them.
-use borrow.Author.Rules.{rules}
 use Rattle.fm3130_companion.proofs.Companion.counted.Goals as goal
 
 pub returns : goal.returns

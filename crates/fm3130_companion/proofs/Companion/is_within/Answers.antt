@@ -1,6 +1,5 @@
 -- SPDX-License-Identifier: Apache-2.0
 -- `fm3130_companion::Companion::is_within` meets its contract. The three tests, joined as in `is_within`.
-use borrow.Author.Rules.{rules}
 use Rattle.fm3130_companion.specs.Limits.{is_within}
 use Rattle.fm3130_companion.proofs.Companion.is_within.Goals as goal
 

@@ -1,6 +1,5 @@
 -- SPDX-License-Identifier: Apache-2.0
 -- `fm3130_companion::Companion::load` meets its contract. The register at the address is read.
-use borrow.Author.Rules.{rules}
 use Rattle.fm3130_companion.specs.Part.{load_of}
 use Rattle.fm3130_companion.proofs.Companion.load.Goals as goal
 

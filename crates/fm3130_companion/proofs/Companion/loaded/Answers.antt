@@ -1,6 +1,5 @@
 -- SPDX-License-Identifier: Apache-2.0
 -- `fm3130_companion::Companion::loaded` meets its contract. At 00h the flags are cleared first; then the address steps on.
-use borrow.Author.Rules.{rules}
 use borrow.Author.Tests.{eq-eqb, ne_eqb}
 use Rattle.fm3130_companion.specs.Part.{loaded_of}
 use Rattle.fm3130_companion.proofs.Companion.loaded.Goals as goal

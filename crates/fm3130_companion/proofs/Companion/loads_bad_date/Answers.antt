@@ -1,6 +1,5 @@
 -- SPDX-License-Identifier: Apache-2.0
 -- `fm3130_companion::Companion::loads_bad_date` meets its contract. The three tests are the definition's.
-use borrow.Author.Rules.{rules}
 use Rattle.fm3130_companion.proofs.Companion.loads_bad_date.Goals as goal
 
 pub returns : goal.returns

@@ -1,6 +1,5 @@
 -- SPDX-License-Identifier: Apache-2.0
 -- `fm3130_companion::Companion::lost` meets its contract. The lost registers and the lost date, at address 0.
-use borrow.Author.Rules.{rules}
 use Rattle.fm3130_companion.specs.Power.{lost_of}
 use Rattle.fm3130_companion.proofs.Companion.lost.Goals as goal
 

@@ -1,6 +1,5 @@
 -- SPDX-License-Identifier: Apache-2.0
 -- `fm3130_companion::Companion::returned` meets its contract. 00h takes POR.
-use borrow.Author.Rules.{rules}
 use Rattle.fm3130_companion.specs.Power.{returned_of}
 use Rattle.fm3130_companion.proofs.Companion.returned.Goals as goal
 

@@ -1,6 +1,5 @@
 -- SPDX-License-Identifier: Apache-2.0
 -- `fm3130_companion::Companion::stepped` meets its contract. The companion at the next address.
-use borrow.Author.Rules.{rules}
 use Rattle.fm3130_companion.proofs.Companion.stepped.Goals as goal
 
 pub returns : goal.returns

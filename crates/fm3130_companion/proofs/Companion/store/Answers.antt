@@ -2,7 +2,6 @@
 -- `fm3130_companion::Companion::store` meets its contract. A bad date is refused; else the write leaves the address, which then
 -- steps on.
 use mathlib.Core.Path.{sym, ◌∙◌}
-use borrow.Author.Rules.{rules}
 use Rattle.fm3130_companion.proofs.Address.{written_address}
 use Rattle.fm3130_companion.specs.Part.{store_of}
 use Rattle.fm3130_companion.proofs.Companion.store.Goals as goal

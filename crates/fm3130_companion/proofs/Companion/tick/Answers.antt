@@ -1,6 +1,5 @@
 -- SPDX-License-Identifier: Apache-2.0
 -- `fm3130_companion::Companion::tick` meets its contract. OSCEN decides whether the tick counts.
-use borrow.Author.Rules.{rules}
 use mathlib.Core.Path.{sym, ◌∙◌}
 use Rattle.fm3130_companion.specs.Tick.{tick_of, rolled_of}
 use Rattle.fm3130_companion.proofs.Companion.tick.Goals as goal

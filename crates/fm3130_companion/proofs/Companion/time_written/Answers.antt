@@ -1,6 +1,5 @@
 -- SPDX-License-Identifier: Apache-2.0
 -- `fm3130_companion::Companion::time_written` meets its contract. W decides whether the byte is stored.
-use borrow.Author.Rules.{rules}
 use mathlib.Core.Path.{sym, ◌∙◌}
 use Rattle.fm3130_companion.proofs.Companion.time_written.Goals as goal
 

@@ -1,6 +1,5 @@
 -- SPDX-License-Identifier: Apache-2.0
 -- `fm3130_companion::Companion::trim_written` meets its contract. 01h takes what the write leaves of it.
-use borrow.Author.Rules.{rules}
 use Rattle.fm3130_companion.proofs.Companion.trim_written.Goals as goal
 
 pub returns : goal.returns

@@ -5,7 +5,6 @@ use mathlib.Core.Path.{◌≡◌, sym, ap}
 use Rattle.bits.proofs.Cases.{is_last}
 use Rattle.fm3130_companion.specs.declared.Registers.{Registers}
 use Rattle.fm3130_companion.specs.Registers.{put_at}
--- A byte put at a number is the byte put at the address that is that number.
 use Rattle.fm3130_companion.proofs.Registers.put.Goals as goal
 
 there : (r : Registers) (b : ℕ) {n a : ℕ} → a ≡ n → put_at r n b ≡ put_at r a b

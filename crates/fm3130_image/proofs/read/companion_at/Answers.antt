@@ -1,6 +1,5 @@
 -- SPDX-License-Identifier: Apache-2.0
 -- The registers, the core and the address by their places.
-use borrow.Author.Rules.{rules}
 use Rattle.fm3130_image.proofs.read.companion_at.Goals as goal
 
 pub returns : goal.returns

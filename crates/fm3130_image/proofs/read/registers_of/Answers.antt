@@ -1,6 +1,5 @@
 -- SPDX-License-Identifier: Apache-2.0
 -- Fifteen reads, seven of them as a calendar.
-use borrow.Author.Rules.{rules}
 use Rattle.fm3130_image.specs.Image.{calendar_at}
 use Rattle.fm3130_image.proofs.read.registers_of.Goals as goal
 

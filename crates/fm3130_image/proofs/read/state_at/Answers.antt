@@ -1,6 +1,5 @@
 -- SPDX-License-Identifier: Apache-2.0
 -- The companion, the address, the supplies and the phase by their places.
-use borrow.Author.Rules.{rules}
 use Rattle.fm3130_image.specs.Image.{candidate}
 use Rattle.fm3130_image.proofs.read.state_at.Goals as goal
 

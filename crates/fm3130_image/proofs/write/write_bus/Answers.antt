@@ -2,7 +2,6 @@
 -- Seven stores, with the numbers of the supplies and of the phase.
 use native.Mathlib.Omega.{arith}
 use lib.ListN.{length-set}
-use borrow.Author.Rules.{rules}
 use Rattle.fm3130_image.proofs.write.write_bus.Goals as goal
 
 pub bounds-image-24 : goal.bounds-image-24

@@ -3,7 +3,6 @@
 use native.Mathlib.Numerals.{towards_suc}
 use native.Mathlib.Omega.{arith}
 use lib.ListN.{length-set}
-use borrow.Author.Rules.{rules}
 use Rattle.fm3130_image.proofs.write.write_calendar.Goals as goal
 
 pub bounds-image-at-2 : goal.bounds-image-at-2

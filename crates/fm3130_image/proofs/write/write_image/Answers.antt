@@ -1,7 +1,6 @@
 -- SPDX-License-Identifier: Apache-2.0
 -- The copy of what the state writes.
 use mathlib.Core.Path.{◌∙◌}
-use borrow.Author.Rules.{rules}
 use Rattle.fm3130_image.proofs.write.write_image.Goals as goal
 
 pub returns : goal.returns

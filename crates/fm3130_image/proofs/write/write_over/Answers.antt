@@ -1,6 +1,5 @@
 -- SPDX-License-Identifier: Apache-2.0
 -- The companion and the rest, over the bytes of an image by their places; the end is that of every image.
-use borrow.Author.Rules.{rules}
 use Rattle.fm3130_image.specs.Image.{image_of}
 use Rattle.fm3130_image.proofs.Accepts.{listed, front_end}
 use Rattle.fm3130_image.proofs.write.write_over.Goals as goal

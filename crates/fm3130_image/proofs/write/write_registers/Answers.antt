@@ -2,7 +2,6 @@
 -- Fifteen stores, seven of them as a calendar.
 use native.Mathlib.Omega.{arith}
 use lib.ListN.{length-set}
-use borrow.Author.Rules.{rules}
 use Rattle.fm3130_image.proofs.write.write_registers.Goals as goal
 
 pub bounds-image-9 : goal.bounds-image-9

@@ -1,6 +1,5 @@
 -- SPDX-License-Identifier: Apache-2.0
 -- `fm3130_registers::control::control_after` meets its contract. Each part of 00h as its call gives it.
-use borrow.Author.Rules.{rules}
 use Rattle.fm3130_registers.proofs.control.control_after.Goals as goal
 
 pub returns : goal.returns

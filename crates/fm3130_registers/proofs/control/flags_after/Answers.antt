@@ -1,6 +1,5 @@
 -- SPDX-License-Identifier: Apache-2.0
 -- `fm3130_registers::control::flags_after` meets its contract. The two flags as the tests give them.
-use borrow.Author.Rules.{rules}
 use Rattle.fm3130_registers.proofs.control.flags_after.Goals as goal
 
 pub returns : goal.returns

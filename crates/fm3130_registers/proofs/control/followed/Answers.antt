@@ -1,6 +1,5 @@
 -- SPDX-License-Identifier: Apache-2.0
 -- `fm3130_registers::control::followed` meets its contract. The test that the code makes is the definition's.
-use borrow.Author.Rules.{rules}
 use Rattle.fm3130_registers.proofs.control.followed.Goals as goal
 
 pub returns-then-has : goal.returns-then-has

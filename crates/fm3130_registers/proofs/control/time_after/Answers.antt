@@ -1,6 +1,5 @@
 -- SPDX-License-Identifier: Apache-2.0
 -- `fm3130_registers::control::time_after` meets its contract. The two steps in their order.
-use borrow.Author.Rules.{rules}
 use Rattle.fm3130_registers.proofs.control.time_after.Goals as goal
 
 pub returns : goal.returns

@@ -1,6 +1,5 @@
 -- SPDX-License-Identifier: Apache-2.0
 -- `fm3130_registers::control::told` meets its contract. The two flags as the tests give them.
-use borrow.Author.Rules.{rules}
 use Rattle.fm3130_registers.proofs.control.told.Goals as goal
 
 pub returns : goal.returns

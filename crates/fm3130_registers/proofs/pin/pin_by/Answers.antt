@@ -1,7 +1,5 @@
 -- SPDX-License-Identifier: Apache-2.0
 -- `fm3130_registers::pin::pin_by` meets its contract. The four tests in turn, each with the definition's own outcome.
-use borrow.Author.Rules.{rules}
-use borrow.Author.Tests.{not-true, not-false}
 use native.Mathlib.Omega.{arith}
 use Rattle.fm3130_registers.proofs.pin.pin_by.Goals as goal
 

@@ -1,6 +1,5 @@
 -- SPDX-License-Identifier: Apache-2.0
 -- `fm3130_registers::stored::stored` meets its contract. Each arm at its own address; the last is 0Eh, the only one left.
-use borrow.Author.Rules.{rules}
 use Rattle.bits.proofs.Cases.{is_last}
 use Rattle.fm3130_registers.proofs.stored.stored.Goals as goal
 

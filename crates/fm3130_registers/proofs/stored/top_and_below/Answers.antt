@@ -1,7 +1,6 @@
 -- SPDX-License-Identifier: Apache-2.0
 -- `fm3130_registers::stored::top_and_below` meets its contract. What lies below the span is less than 128, so bit 7 adds
 -- without a carry.
-use borrow.Author.Rules.{rules}
 use native.Mathlib.Nat.{mod-lt}
 use native.Mathlib.Omega.{arith}
 use Rattle.fm3130_registers.proofs.stored.top_and_below.Goals as goal

@@ -1,6 +1,5 @@
 -- SPDX-License-Identifier: Apache-2.0
 -- `fm3130_registers::stored::trim_after` meets its contract. CAL decides whose last six bits stay.
-use borrow.Author.Rules.{rules}
 use Rattle.fm3130_registers.proofs.stored.trim_after.Goals as goal
 
 pub returns-then-has : goal.returns-then-has

@@ -1,7 +1,6 @@
 -- SPDX-License-Identifier: Apache-2.0
 -- `fm31_counters::Count::next` meets its contract. The wrapping sum, as two bytes again.
 use Rattle.fm31_counters.specs.Edge.{next_count}
-use Rattle.std.proofs.Common.{rules}
 use Rattle.fm31_counters.proofs.Count.next.Goals as goal
 
 pub returns : goal.returns

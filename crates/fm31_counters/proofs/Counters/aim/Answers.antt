@@ -1,6 +1,6 @@
 -- SPDX-License-Identifier: Apache-2.0
 -- `fm31_counters::Counters::aim` meets its contract. A byte from 09h to 18h is taken, another is refused.
-use Rattle.std.proofs.Common.{sym, ◌∙◌, rules}
+use Rattle.std.proofs.Common.{sym, ◌∙◌}
 use Rattle.fm31_counters.specs.Part.{aim_of}
 use Rattle.fm31_counters.proofs.Counters.aim.Goals as goal
 

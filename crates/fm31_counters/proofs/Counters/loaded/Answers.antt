@@ -1,6 +1,6 @@
 -- SPDX-License-Identifier: Apache-2.0
 -- `fm31_counters::Counters::loaded` meets its contract. At 10h RC is cleared first; then the address steps on.
-use Rattle.std.proofs.Common.{rules, eq-eqb, ne_eqb}
+use Rattle.std.proofs.Common.{eq-eqb, ne_eqb}
 use Rattle.fm31_counters.specs.Part.{loaded_of}
 use Rattle.fm31_counters.proofs.Counters.loaded.Goals as goal
 

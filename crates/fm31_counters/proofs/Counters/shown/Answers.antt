@@ -1,6 +1,6 @@
 -- SPDX-License-Identifier: Apache-2.0
 -- `fm31_counters::Counters::shown` meets its contract. By RC, the snapshot or the counters.
-use Rattle.std.proofs.Common.{sym, ◌∙◌, rules}
+use Rattle.std.proofs.Common.{sym, ◌∙◌}
 use Rattle.fm31_counters.proofs.Counters.shown.Goals as goal
 
 pub returns-then-has : goal.returns-then-has

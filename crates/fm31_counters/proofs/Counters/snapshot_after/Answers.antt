@@ -1,6 +1,5 @@
 -- SPDX-License-Identifier: Apache-2.0
 -- `fm31_counters::Counters::snapshot_after` meets its contract. By the address and the byte's RC.
-use Rattle.std.proofs.Common.{rules}
 use Rattle.fm31_counters.proofs.Counters.snapshot_after.Goals as goal
 
 pub returns-then-self-has : goal.returns-then-self-has

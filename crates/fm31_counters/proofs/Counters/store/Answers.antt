@@ -2,7 +2,6 @@
 -- `fm31_counters::Counters::store` meets its contract. The byte is written, then the address steps on.
 use Rattle.fm31_counters.specs.Write.{written_of}
 use Rattle.fm31_counters.specs.Part.{store_of}
-use Rattle.std.proofs.Common.{rules}
 use Rattle.fm31_counters.proofs.Counters.store.Goals as goal
 
 pub stepped-requires : goal.stepped-requires

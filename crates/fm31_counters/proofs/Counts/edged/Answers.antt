@@ -1,6 +1,5 @@
 -- SPDX-License-Identifier: Apache-2.0
 -- `fm31_counters::Counts::edged` meets its contract. By the input and CC, as the definition has it.
-use Rattle.std.proofs.Common.{rules}
 use Rattle.fm31_counters.proofs.Counts.edged.Goals as goal
 
 pub returns-then-cascaded : goal.returns-then-cascaded

@@ -1,7 +1,6 @@
 -- SPDX-License-Identifier: Apache-2.0
 -- `fm31_counters::Counts::next` meets its contract. The wrapping sum, as four bytes again.
 use Rattle.fm31_counters.specs.Edge.{next_pair}
-use Rattle.std.proofs.Common.{rules}
 use Rattle.fm31_counters.proofs.Counts.next.Goals as goal
 
 pub returns : goal.returns

@@ -1,6 +1,5 @@
 -- SPDX-License-Identifier: Apache-2.0
 -- `fm31_counters::Counts::of` meets its contract. The low half is counter 1, the high half counter 2.
-use Rattle.std.proofs.Common.{rules}
 use Rattle.fm31_counters.proofs.Counts.of.Goals as goal
 
 pub returns : goal.returns

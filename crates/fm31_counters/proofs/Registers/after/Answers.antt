@@ -1,6 +1,6 @@
 -- SPDX-License-Identifier: Apache-2.0
 -- `fm31_counters::Registers::after` meets its contract. A locked serial number is left, any other register put.
-use Rattle.std.proofs.Common.{sym, ap, ◌∙◌, rules}
+use Rattle.std.proofs.Common.{sym, ap, ◌∙◌}
 use Rattle.fm31_counters.specs.Registers.{put_at}
 use Rattle.fm31_counters.proofs.Written.{locked_write, open_write_lem}
 use Rattle.fm31_counters.proofs.Registers.after.Goals as goal

@@ -1,7 +1,7 @@
 -- SPDX-License-Identifier: Apache-2.0
 -- `fm31_counters::Registers::kept` meets its contract. 09h to 0Ch by their rules; from 0Dh on the whole byte.
 use Rattle.fm31_counters.proofs.Written.{kept_whole, past_counting}
-use Rattle.std.proofs.Common.{sym, rules}
+use Rattle.std.proofs.Common.{sym}
 use Rattle.fm31_counters.proofs.Registers.kept.Goals as goal
 
 pub returns-in-9 : goal.returns-in-9

@@ -1,7 +1,6 @@
 -- SPDX-License-Identifier: Apache-2.0
 -- `fm31_counters::Registers::read` meets its contract. Each of the sixteen places by itself.
 use Rattle.fm31_counters.proofs.Written.{last_place}
-use Rattle.std.proofs.Common.{rules}
 use Rattle.fm31_counters.proofs.Registers.read.Goals as goal
 
 pub returns-in-0 : goal.returns-in-0

@@ -1,6 +1,5 @@
 -- SPDX-License-Identifier: Apache-2.0
 -- `fm31_counters::write::flags_after` meets its contract. Each flag of both bytes, and the byte's low four bits.
-use Rattle.std.proofs.Common.{rules}
 use Rattle.fm31_counters.proofs.write.flags_after.Goals as goal
 
 pub returns : goal.returns

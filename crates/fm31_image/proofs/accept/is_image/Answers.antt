@@ -1,13 +1,8 @@
 -- SPDX-License-Identifier: Apache-2.0
 -- The tests of the bytes, one after the other, are those of the definition.
-use Prim.Native.Nat.{ℕ, ◌<◌}
 use mathlib.Core.Path.{sym, ◌∙◌}
 use native.Mathlib.Omega.{arith}
-use lib.ListN.{get_or}
-use borrow.Author.Rules.{rules}
-use borrow.Author.Tests.{not-true, not-false}
 use Rattle.fm31_image.proofs.Accepts.{image_not_long, wrong_same, wrong_places, right_so_far}
--- the image holds bytes
 use Rattle.fm31_image.proofs.accept.is_image.Goals as goal
 
 pub returns-then-image-ne-LENGTH : goal.returns-then-image-ne-LENGTH

@@ -1,7 +1,6 @@
 -- SPDX-License-Identifier: Apache-2.0
 -- The registers by their places in one word; the addresses.
 use native.Mathlib.Omega.{arith}
-use borrow.Author.Rules.{rules}
 use Rattle.fm31_image.proofs.Accepts.{places_tested}
 use Rattle.fm31_image.proofs.accept.places_within.Goals as goal
 

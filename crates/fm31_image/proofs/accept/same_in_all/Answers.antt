@@ -1,6 +1,5 @@
 -- SPDX-License-Identifier: Apache-2.0
 -- Two bytes alone, and the end.
-use borrow.Author.Rules.{rules}
 use Rattle.fm31_image.specs.Accepting.{same_in_all}
 use Rattle.fm31_image.proofs.accept.same_in_all.Goals as goal
 

@@ -1,6 +1,5 @@
 -- SPDX-License-Identifier: Apache-2.0
 -- The address, the supplies and the phase, each at its place.
-use borrow.Author.Rules.{rules}
 use Rattle.fm31_image.proofs.image.bus_at.Goals as goal
 
 pub returns : goal.returns

@@ -1,6 +1,5 @@
 -- SPDX-License-Identifier: Apache-2.0
 -- The registers, the snapshot and the address, each at its place.
-use borrow.Author.Rules.{rules}
 use Rattle.fm31_image.proofs.image.counters_at.Goals as goal
 
 pub returns : goal.returns

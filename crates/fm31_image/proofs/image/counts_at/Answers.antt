@@ -2,7 +2,6 @@
 -- Four bytes, each at its place.
 use mathlib.Core.Path.{refl}
 use Rattle.fm31_image.specs.Image.{counts_at}
-use borrow.Author.Rules.{rules}
 use Rattle.fm31_image.proofs.image.counts_at.Goals as goal
 
 pub returns : goal.returns

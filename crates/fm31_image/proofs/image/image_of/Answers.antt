@@ -1,6 +1,5 @@
 -- SPDX-License-Identifier: Apache-2.0
 -- The parts at their places, over zeros and the mark.
-use borrow.Author.Rules.{rules}
 use Rattle.fm31_image.specs.Image.{image_of}
 use Rattle.fm31_image.proofs.image.image_of.Goals as goal
 

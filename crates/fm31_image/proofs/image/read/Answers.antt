@@ -1,7 +1,6 @@
 -- SPDX-License-Identifier: Apache-2.0
 -- Each part of the state at its place.
 use Rattle.fm31_image.specs.Image.{candidate}
-use borrow.Author.Rules.{rules}
 use Rattle.fm31_image.proofs.image.read.Goals as goal
 
 pub returns : goal.returns

@@ -1,6 +1,5 @@
 -- SPDX-License-Identifier: Apache-2.0
 -- The counters, the serial number, and four bytes by themselves.
-use borrow.Author.Rules.{rules}
 use Rattle.fm31_image.specs.Image.{counts_at}
 use Rattle.fm31_image.proofs.image.registers_of.Goals as goal
 

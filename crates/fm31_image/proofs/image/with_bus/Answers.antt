@@ -1,6 +1,5 @@
 -- SPDX-License-Identifier: Apache-2.0
 -- Eight stores, with the numbers of the supplies and of the phase.
-use borrow.Author.Rules.{rules}
 use Rattle.fm31_image.proofs.image.with_bus.Goals as goal
 
 pub returns : goal.returns

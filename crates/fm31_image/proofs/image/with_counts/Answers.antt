@@ -1,7 +1,6 @@
 -- SPDX-License-Identifier: Apache-2.0
 -- Four stores, each one place after the one before.
 use native.Mathlib.Numerals.{towards_suc}
-use borrow.Author.Rules.{rules}
 use Rattle.fm31_image.proofs.image.with_counts.Goals as goal
 
 pub returns : goal.returns

@@ -1,6 +1,5 @@
 -- SPDX-License-Identifier: Apache-2.0
 -- Sixteen stores, four of them as counters.
-use borrow.Author.Rules.{rules}
 use Rattle.fm31_image.proofs.image.with_registers.Goals as goal
 
 pub returns : goal.returns

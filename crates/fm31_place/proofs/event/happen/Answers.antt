@@ -2,7 +2,6 @@
 -- The companion's part and the bus's, put together.
 use mathlib.Core.Path.{refl}
 use native.Mathlib.Omega.{arith}
-use borrow.Author.Rules.{rules}
 use Rattle.fm31_place.proofs.Lying.{long, companion_ready, bus_ready, served_long, happened}
 use Rattle.fm31_place.proofs.event.happen.Goals as goal
 

@@ -2,7 +2,6 @@
 -- Seven stores, with the numbers of the supplies and of the phase.
 use native.Mathlib.Omega.{arith}
 use lib.ListN.{length-set}
-use borrow.Author.Rules.{rules}
 use Rattle.fm31_image.specs.Image.{image_of}
 use Rattle.fm31_place.proofs.event.put_bus.Goals as goal
 

@@ -1,6 +1,5 @@
 -- SPDX-License-Identifier: Apache-2.0
 -- What was read is the companion that lies there; what it was asked is done, and written.
-use borrow.Author.Rules.{rules}
 use Rattle.fm31_place.proofs.Lying.{asked}
 use Rattle.fm31_place.proofs.room.ask.Goals as goal
 

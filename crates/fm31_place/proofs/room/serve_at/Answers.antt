@@ -1,6 +1,5 @@
 -- SPDX-License-Identifier: Apache-2.0
 -- Nothing is asked, or something.
-use borrow.Author.Rules.{rules}
 use Rattle.fm31_place.proofs.Lying.{nothing_asked}
 use Rattle.fm31_place.proofs.room.serve_at.Goals as goal
 

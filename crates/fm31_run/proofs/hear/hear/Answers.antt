@@ -1,7 +1,6 @@
 -- SPDX-License-Identifier: Apache-2.0
 -- `fm31_run::hear::hear` meets its contract.
 use mathlib.Core.Path.{sym, ◌∙◌}
-use borrow.Author.Rules.{rules}
 use Rattle.fm31_run.proofs.Seats.{own_small, heard_yes, heard_no}
 use Rattle.fm31_run.proofs.hear.hear.Goals as goal
 

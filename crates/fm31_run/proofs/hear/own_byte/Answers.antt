@@ -1,6 +1,5 @@
 -- SPDX-License-Identifier: Apache-2.0
 -- `fm31_run::hear::own_byte` meets its contract.
-use borrow.Author.Rules.{rules}
 use borrow.Author.Tests.{lt-ltb, le-ltb}
 use Rattle.fm31_run.specs.Seat.{own_byte}
 use Rattle.fm31_run.proofs.hear.own_byte.Goals as goal

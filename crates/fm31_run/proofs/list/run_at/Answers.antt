@@ -1,6 +1,6 @@
 -- SPDX-License-Identifier: Apache-2.0
 -- `run_at` meets its contract: all that the proof knows of `hear_in_place` is that it meets its own.
-use Rattle.std.proofs.Common.{arith, ◌≡◌}
+use Rattle.std.proofs.Common.{arith}
 use Rattle.fm31.proofs.Entry.{ready}
 use Rattle.fm31_run.proofs.Turns.{Turn, turned_known, ended}
 use Rattle.fm31_run.proofs.list.run_at.Goals as goal

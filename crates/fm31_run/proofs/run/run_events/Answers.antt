@@ -1,6 +1,5 @@
 -- SPDX-License-Identifier: Apache-2.0
 -- `fm31_run::run::run_events` meets its contract.
-use borrow.Author.Rules.{rules}
 use Rattle.fm31_run.proofs.Seats.{alone}
 use Rattle.fm31_run.proofs.run.run_events.Goals as goal
 

@@ -1,6 +1,5 @@
 -- SPDX-License-Identifier: Apache-2.0
 -- `lamps::Follower::clocked` meets its contract.
-use borrow.Author.Rules.{rules}
 use Rattle.lamps.proofs.Follower.clocked.Goals as goal
 
 pub returns-in-Idle : goal.returns-in-Idle

@@ -1,7 +1,6 @@
 -- SPDX-License-Identifier: Apache-2.0
 -- `lamps::Follower::gather` meets its contract.
 use borrow.Author.Tests.{ne_eqb}
-use borrow.Author.Rules.{rules}
 use Rattle.lamps.proofs.Follower.gather.Goals as goal
 
 pub returns-then-clocks-eq0 : goal.returns-then-clocks-eq0

@@ -4,7 +4,6 @@ use borrow.Author.Tests.{ne_eqb}
 use native.Mathlib.Omega.{arith}
 use mathlib.Core.Path.{refl}
 use Rattle.lamps.proofs.Events.{is_start_lem, is_stop_lem, is_clock_lem, is_second, is_returned, lost_fails}
-use borrow.Author.Rules.{rules}
 use Rattle.lamps.proofs.Follower.mark.Goals as goal
 
 pub returns-then-is_part : goal.returns-then-is_part

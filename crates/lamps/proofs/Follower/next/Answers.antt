@@ -3,7 +3,6 @@
 use mathlib.Core.Path.{sym, ◌∙◌}
 use Rattle.lamps.proofs.Events.{keeps, rests}
 use Rattle.fm3130.proofs.Cases.{happening_clock}
-use borrow.Author.Rules.{rules}
 use Rattle.lamps.proofs.Follower.next.Goals as goal
 
 pub returns-then-event-eq1 : goal.returns-then-event-eq1

@@ -1,6 +1,5 @@
 -- SPDX-License-Identifier: Apache-2.0
 -- `lamps::Proving::begun` meets its contract.
-use borrow.Author.Rules.{rules}
 use Rattle.lamps.proofs.Proving.begun.Goals as goal
 
 pub returns : goal.returns

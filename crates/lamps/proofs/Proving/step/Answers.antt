@@ -1,6 +1,5 @@
 -- SPDX-License-Identifier: Apache-2.0
 -- `lamps::Proving::step` meets its contract.
-use borrow.Author.Rules.{rules}
 use Rattle.lamps.proofs.Proving.step.Goals as goal
 
 pub returns : goal.returns

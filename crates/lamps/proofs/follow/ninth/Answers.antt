@@ -1,6 +1,5 @@
 -- SPDX-License-Identifier: Apache-2.0
 -- `lamps::follow::ninth` meets its contract.
-use borrow.Author.Rules.{rules}
 use Rattle.lamps.proofs.follow.ninth.Goals as goal
 
 pub returns-in-Value : goal.returns-in-Value

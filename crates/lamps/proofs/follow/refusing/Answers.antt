@@ -1,6 +1,5 @@
 -- SPDX-License-Identifier: Apache-2.0
 -- A byte that is refused at its eighth clock: it had seven clocks done, and the transfer has ended.
-use borrow.Author.Rules.{rules}
 use Rattle.lamps.proofs.follow.refusing.Goals as goal
 
 pub returns : goal.returns

@@ -2,7 +2,6 @@
 -- `lamps_eight::Lamp::next` meets its contract.
 use borrow.Author.Tests.{eq-eqb}
 use borrow.Author.Tests.{ne_eqb}
-use borrow.Author.Rules.{rules}
 use Rattle.lamps_eight.proofs.Lamp.next.Goals as goal
 
 pub returns-then-address-at : goal.returns-then-address-at

@@ -3,7 +3,6 @@
 use native.Mathlib.Omega.{arith}
 use mathlib.Core.Path.{◌≡◌, refl}
 use Prim.Native.Nat.{◌-◌}
-use borrow.Author.Rules.{rules}
 use Rattle.lamps_eight.proofs.Lamp.ticked.Goals as goal
 
 pub returns-then-self-eq0 : goal.returns-then-self-eq0

@@ -1,6 +1,5 @@
 -- SPDX-License-Identifier: Apache-2.0
 -- `lamps_eight::Lamps::dark` meets its contract.
-use borrow.Author.Rules.{rules}
 use Rattle.lamps_eight.proofs.Lamps.dark.Goals as goal
 
 pub returns : goal.returns

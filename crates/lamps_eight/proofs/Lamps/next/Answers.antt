@@ -1,6 +1,5 @@
 -- SPDX-License-Identifier: Apache-2.0
 -- `lamps_eight::Lamps::next` meets its contract.
-use borrow.Author.Rules.{rules}
 use Rattle.lamps_eight.proofs.Lamps.next.Goals as goal
 
 pub returns : goal.returns

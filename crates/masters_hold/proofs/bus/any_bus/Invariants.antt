@@ -1,12 +1,10 @@
 -- SPDX-License-Identifier: Apache-2.0
 -- What was seen of the events, and the rest, is the whole; at the end nothing is left.
 use Prim.Native.Nat.{◌≤◌, ◌-◌}
-use mathlib.Core.Path.{◌≡◌, sym, ◌∙◌}
+use mathlib.Core.Path.{◌≡◌}
 use mathlib.Core.Bool.{◌||◌}
 use lib.ListN.{length, drop}
-use borrow.Author.Rules.{rules}
 use Rattle.masters_hold.specs.Bus.{any_bus}
-use Rattle.masters_hold.proofs.Lists.{any_more, any_end}
 use Rattle.masters_hold.proofs.bus.any_bus.Given as goal
 
 abbrev pub invariant-loop-i : goal.invariant-loop-i

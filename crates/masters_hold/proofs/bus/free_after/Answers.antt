@@ -1,8 +1,6 @@
 -- SPDX-License-Identifier: Apache-2.0
 -- The byte stays, or says that nobody holds the bus.
 use mathlib.Core.Path.{refl, sym, ◌∙◌}
-use borrow.Author.Rules.{rules}
-use borrow.Author.Tests.{not-true, not-false}
 use Rattle.masters_hold.proofs.Known.{one_set}
 use Rattle.masters_hold.proofs.bus.free_after.Goals as goal
 

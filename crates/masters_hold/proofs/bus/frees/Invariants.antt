@@ -1,12 +1,10 @@
 -- SPDX-License-Identifier: Apache-2.0
 -- What is left of the events, from what was seen, frees as the whole; at the end nothing is left.
 use Prim.Native.Nat.{◌≤◌, ◌-◌}
-use mathlib.Core.Path.{◌≡◌, sym, ◌∙◌}
+use mathlib.Core.Path.{◌≡◌}
 use mathlib.Core.Bool.{false}
 use lib.ListN.{length, drop}
-use borrow.Author.Rules.{rules}
 use Rattle.masters_hold.specs.Bus.{frees}
-use Rattle.masters_hold.proofs.Lists.{frees_more, frees_end}
 use Rattle.masters_hold.proofs.bus.frees.Given as goal
 
 abbrev pub invariant-loop-i : goal.invariant-loop-i

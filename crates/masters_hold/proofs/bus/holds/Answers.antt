@@ -1,6 +1,5 @@
 -- SPDX-License-Identifier: Apache-2.0
 -- Nobody, or the master that the holder is: one comparison.
-use borrow.Author.Rules.{rules}
 use Rattle.masters_hold.proofs.bus.holds.Goals as goal
 
 pub returns-in-Held : goal.returns-in-Held

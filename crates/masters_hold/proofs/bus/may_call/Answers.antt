@@ -2,7 +2,6 @@
 -- The holder may; another if no event is one of the bus.
 use mathlib.Core.Path.{refl, sym, ap, ◌∙◌}
 use mathlib.Core.Bool.{not}
-use borrow.Author.Rules.{rules}
 use Rattle.masters_hold.proofs.bus.may_call.Goals as goal
 
 pub returns-then-holds : goal.returns-then-holds

@@ -1,7 +1,6 @@
 -- SPDX-License-Identifier: Apache-2.0
 -- The tests of the lent byte and of the number, each way by its law.
 use mathlib.Core.Path.{sym}
-use borrow.Author.Rules.{rules}
 use Rattle.masters_hold.proofs.Known.{standing_long, standing_byte, standing_below, standing_above, standing_known}
 use Rattle.masters_hold.proofs.bus.standing.Goals as goal
 

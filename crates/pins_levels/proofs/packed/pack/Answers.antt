@@ -1,7 +1,6 @@
 -- SPDX-License-Identifier: Apache-2.0
 use native.Mathlib.Omega.{arith}
 use Rattle.pins_levels.specs.Packed.{packed}
-use borrow.Author.Rules.{rules}
 use Rattle.pins_levels.proofs.packed.pack.Goals as goal
 
 pub returns : goal.returns

@@ -1,6 +1,5 @@
 -- SPDX-License-Identifier: Apache-2.0
 use Rattle.pins_levels.specs.Packed.{unpacked}
-use borrow.Author.Rules.{rules}
 use Rattle.pins_levels.proofs.packed.unpack.Goals as goal
 
 pub returns : goal.returns

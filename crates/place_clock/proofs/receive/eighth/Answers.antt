@@ -1,8 +1,7 @@
 -- SPDX-License-Identifier: Apache-2.0
 -- The byte was taken, or refused: what the law of the eighth clock says of the bytes 26 to 29.
 use native.Mathlib.Omega.{arith}
-use lib.ListN.{length, length-set}
-use borrow.Author.Rules.{rules}
+use lib.ListN.{length-set}
 use Rattle.place_clock.proofs.Incomings.{accepted_long, accepted_lies, taken_left, refused_left}
 use Rattle.place_clock.proofs.receive.eighth.Goals as goal
 

@@ -1,6 +1,5 @@
 -- SPDX-License-Identifier: Apache-2.0
 -- The number of the phase that follows, by the number.
-use borrow.Author.Rules.{rules}
 use borrow.Author.Tests.{ne_eqb}
 use Rattle.place_clock.specs.Code.Incoming.{followed_by}
 use Rattle.place_clock.proofs.receive.follows.Goals as goal

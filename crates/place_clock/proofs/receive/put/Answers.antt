@@ -1,8 +1,6 @@
 -- SPDX-License-Identifier: Apache-2.0
 -- The protection and the address as they lie in the image; the address steps on either way.
 use native.Mathlib.Omega.{arith}
-use lib.ListN.{length}
-use borrow.Author.Rules.{rules}
 use Rattle.place_clock.proofs.Incomings.{accepted_long, accepted_places, refused_whole, stored_whole}
 use Rattle.place_clock.proofs.receive.put.Goals as goal
 

@@ -1,8 +1,7 @@
 -- SPDX-License-Identifier: Apache-2.0
 -- Inside the byte, at its eighth clock, at its acknowledge: each by its law.
 use native.Mathlib.Omega.{arith}
-use lib.ListN.{length, length-set}
-use borrow.Author.Rules.{rules}
+use lib.ListN.{length-set}
 use Rattle.place_clock.proofs.Incomings.{accepted_long, accepted_lies, inside_left, acknowledged_left}
 use Rattle.place_clock.proofs.receive.receive.Goals as goal
 

@@ -2,8 +2,6 @@
 -- Each phase's byte by its own law: a slave byte, the second address byte, and what serves a device.
 use mathlib.Core.Path.{refl}
 use native.Mathlib.Omega.{arith}
-use lib.ListN.{length}
-use borrow.Author.Rules.{rules}
 use borrow.Author.Tests.{ne_eqb}
 use Rattle.place_clock.specs.Code.Incoming.{whole_by}
 use Rattle.place_clock.proofs.Incomings.{accepted_long, accepted_places, slave_whole, low_whole}

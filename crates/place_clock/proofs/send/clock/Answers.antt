@@ -4,7 +4,6 @@ use mathlib.Core.Path.{refl}
 use native.Mathlib.Omega.{arith}
 use Rattle.fm3130_image.proofs.Accepts.{image_long}
 use Rattle.place_clock.proofs.Outgoings.{at_idle}
-use borrow.Author.Rules.{rules}
 use Rattle.place_clock.proofs.send.clock.Goals as goal
 
 pub bounds-image-26 : goal.bounds-image-26

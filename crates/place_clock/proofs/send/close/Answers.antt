@@ -2,7 +2,6 @@
 -- The stores of each way.
 use native.Mathlib.Omega.{arith}
 use lib.ListN.{length-set}
-use borrow.Author.Rules.{rules}
 use Rattle.place_clock.proofs.send.close.Goals as goal
 
 pub bounds-image-27 : goal.bounds-image-27

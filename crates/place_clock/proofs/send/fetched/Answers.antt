@@ -3,7 +3,6 @@
 use borrow.Author.Tests.{ne_eqb}
 use Rattle.fm3130_image.specs.Image.{image_of}
 use Rattle.bus_image.proofs.Back.{address_of_bytes}
-use borrow.Author.Rules.{rules}
 use Rattle.place_clock.proofs.send.fetched.Goals as goal
 
 pub returns-then-number-eq-READ_MEMORY : goal.returns-then-number-eq-READ_MEMORY

@@ -1,7 +1,6 @@
 -- SPDX-License-Identifier: Apache-2.0
 -- The memory or the companion.
 use borrow.Author.Tests.{ne_eqb}
-use borrow.Author.Rules.{rules}
 use Rattle.place_clock.proofs.send.finish.Goals as goal
 
 pub returns-then-number-eq-READ_MEMORY : goal.returns-then-number-eq-READ_MEMORY

@@ -7,7 +7,6 @@ use Rattle.fm3130_image.specs.Image.{candidate}
 use Rattle.fm3130_image.proofs.Accepts.{image_long, image_written}
 use Rattle.fm3130_image.proofs.Lies.{image_places}
 use Rattle.place_clock.proofs.Outgoings.{clocks_below, at_first, at_within, at_last_lem, at_ack}
-use borrow.Author.Rules.{rules}
 use Rattle.place_clock.proofs.send.send.Goals as goal
 
 pub bounds-image-27 : goal.bounds-image-27

@@ -1,12 +1,9 @@
 -- SPDX-License-Identifier: Apache-2.0
 -- A Clock, or an event that touches no memory; the answer byte is of the state that the event left.
-use mathlib.Core.Path.{◌≡◌, refl, sym, ap, ◌∙◌}
-use native.Mathlib.Omega.{arith}
-use borrow.Author.Rules.{rules}
+use mathlib.Core.Path.{ap, ◌∙◌}
 use lib.ListN.{length}
-use Rattle.fm3130_image.specs.Image.{image_size, image_of, candidate}
 use Rattle.fm3130_image.proofs.Images.{image_length}
-use Rattle.fm3130_image.proofs.Accepts.{image_long, image_well}
+use Rattle.fm3130_image.proofs.Accepts.{image_well}
 use Rattle.place_event.proofs.Quiets.{answered_clock, answered_quiet}
 use Rattle.place_event.proofs.event.happen.Goals as goal
 

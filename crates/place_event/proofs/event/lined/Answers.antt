@@ -2,7 +2,6 @@
 -- The line is bit 0.
 use mathlib.Core.Path.{refl}
 use native.Mathlib.Omega.{arith}
-use borrow.Author.Rules.{rules}
 use Rattle.place_event.proofs.event.lined.Goals as goal
 
 pub returns-then-line : goal.returns-then-line

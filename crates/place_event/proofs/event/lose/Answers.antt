@@ -11,7 +11,6 @@ use Rattle.fm3130.specs.declared.State.{State}
 use Rattle.fm3130_image.specs.Image.{image_of}
 use Rattle.fm3130_image.proofs.Lies.{phase_over}
 use Rattle.place_event.proofs.Quiets.{loss_heard, loss_unheard}
--- what the stores before the phase leave
 use Rattle.place_event.proofs.event.lose.Goals as goal
 
 abbrev at_rest : State → State

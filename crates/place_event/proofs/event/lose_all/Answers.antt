@@ -1,8 +1,7 @@
 -- SPDX-License-Identifier: Apache-2.0
 -- The fresh device, without a supply.
-use mathlib.Core.Path.{◌≡◌, refl, sym, ◌∙◌}
+use mathlib.Core.Path.{refl}
 use native.Mathlib.Omega.{arith}
-use borrow.Author.Rules.{rules}
 use Rattle.fm3130_image.specs.Image.{image_of}
 use Rattle.fm3130_image.proofs.Accepts.{image_long, image_read, decoded_end}
 use Rattle.place_event.proofs.Quiets.{all_lost, all_lost_before}

@@ -1,7 +1,6 @@
 -- SPDX-License-Identifier: Apache-2.0
 -- By the event's number.
 use mathlib.Core.Path.{◌≡◌, refl, sym}
-use borrow.Author.Rules.{rules}
 use Rattle.wire.specs.Machine as Machine
 use Rattle.fm3130.specs.Event.{on_wire, second, lost, gone, returned, happening}
 use Rattle.fm3130.proofs.Cases.{happening_returned}

@@ -1,7 +1,6 @@
 -- SPDX-License-Identifier: Apache-2.0
 -- By the supplies that were present.
-use mathlib.Core.Path.{◌≡◌, refl}
-use borrow.Author.Rules.{rules}
+use mathlib.Core.Path.{refl}
 use Rattle.fm3130_image.specs.Image.{image_of}
 use Rattle.fm3130_companion.specs.Power.{returned_of}
 use Rattle.place_event.proofs.Quiets.{back_after_backup, back_else}

@@ -1,6 +1,5 @@
 -- SPDX-License-Identifier: Apache-2.0
 -- A tick goes to the companion while a supply is present.
-use borrow.Author.Rules.{rules}
 use Rattle.fm3130_image.specs.Image.{image_of}
 use Rattle.place_event.proofs.Quiets.{second_heard, second_unheard, rolled_heard, rolled_unheard}
 use Rattle.place_event.proofs.event.second.Goals as goal

@@ -1,8 +1,7 @@
 -- SPDX-License-Identifier: Apache-2.0
 -- Nothing without a supply; else by 00h and 0Eh.
-use mathlib.Core.Path.{◌≡◌, refl}
+use mathlib.Core.Path.{refl}
 use native.Mathlib.Omega.{arith}
-use borrow.Author.Rules.{rules}
 use Rattle.fm3130_image.specs.Image.{image_of}
 use Rattle.fm3130_companion.specs.Pin.{pin_of}
 use Rattle.place_event.proofs.Quiets.{shown_off, shown_supplied}

@@ -1,7 +1,6 @@
 -- SPDX-License-Identifier: Apache-2.0
 -- Heard or not.
 use mathlib.Core.Path.{sym}
-use borrow.Author.Rules.{rules}
 use Rattle.wire.specs.Machine as Machine
 use Rattle.wire.specs.declared.Phase.TheVariants.{Idle}
 use Rattle.fm3130_image.specs.Image.{image_of}

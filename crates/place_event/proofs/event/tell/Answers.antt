@@ -2,7 +2,6 @@
 -- A tick tells its field; any other event none.
 use mathlib.Core.Path.{sym, ap, ◌∙◌}
 use lib.ListN.{length}
-use borrow.Author.Rules.{rules}
 use borrow.Author.Tests.{ne_eqb}
 use Rattle.fm3130.specs.Event.{second}
 use Rattle.fm3130.proofs.Cases.{no_tick}

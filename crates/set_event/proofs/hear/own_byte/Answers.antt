@@ -1,6 +1,5 @@
 -- SPDX-License-Identifier: Apache-2.0
 -- `set_event::hear::own_byte` meets its contract.
-use borrow.Author.Rules.{rules}
 use borrow.Author.Tests.{lt-ltb, le-ltb}
 use Rattle.set_event.specs.Set.{own_byte}
 use Rattle.set_event.proofs.hear.own_byte.Goals as goal

@@ -1,6 +1,5 @@
 -- SPDX-License-Identifier: Apache-2.0
 -- `set_image::read::count_of` meets its contract.
-use borrow.Author.Rules.{rules}
 use borrow.Author.Tests.{lt-ltb, le-ltb}
 use Rattle.set_image.specs.Read.{count_of}
 use Rattle.set_image.proofs.read.count_of.Goals as goal

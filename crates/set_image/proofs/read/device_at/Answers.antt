@@ -6,11 +6,9 @@ use mathlib.Core.Path.{◌≡◌, sym, ap, ◌∙◌}
 use native.Mathlib.Omega.{arith}
 use lib.Dec.{ltb}
 use lib.ListN.{get_or}
-use borrow.Author.Rules.{rules}
 use Rattle.fm31_image.specs.declared.Decoded.{Decoded}
 use Rattle.set_image.specs.Read.{device_at, got_of}
 use Rattle.set_image.proofs.Readings.{device_short, device_read}
--- what the image gave, from where it was decoded
 use Rattle.set_image.proofs.read.device_at.Goals as goal
 
 pub returns-then-images-from : goal.returns-then-images-from

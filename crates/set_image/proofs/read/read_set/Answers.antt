@@ -1,6 +1,5 @@
 -- SPDX-License-Identifier: Apache-2.0
 -- `set_image::read::read_set` meets its contract.
-use borrow.Author.Rules.{rules}
 use Rattle.set_image.specs.Read.{reading_of}
 use Rattle.set_image.proofs.read.read_set.Goals as goal
 

@@ -1,6 +1,5 @@
 -- SPDX-License-Identifier: Apache-2.0
 -- `set_image::read::unread` meets its contract.
-use borrow.Author.Rules.{rules}
 use Rattle.set_image.proofs.read.unread.Goals as goal
 
 pub returns : goal.returns

@@ -1,10 +1,8 @@
 -- SPDX-License-Identifier: Apache-2.0
 -- The loop's invariant: the bytes passed are copied, and the others stay. The measure is what is left.
-use Prim.Native.Nat.{◌+◌, ◌≤◌, ◌-◌}
-use mathlib.Core.Path.{◌≡◌}
+use Prim.Native.Nat.{◌-◌}
 use native.Mathlib.Omega.{arith}
-use lib.ListN.{length}
-use lib.Seq.{paste, paste-zero}
+use lib.Seq.{paste-zero}
 use borrow.Author.Rules.{rules}
 use Rattle.set_image.proofs.Pastes.{paste_more, paste_end}
 use Rattle.set_image.proofs.write.paste.Goals as goal

@@ -2,11 +2,8 @@
 -- The loop's invariant: the bytes passed are copied, and the others stay. The measure is what is left.
 use Prim.Native.Nat.{◌+◌, ◌≤◌, ◌-◌}
 use mathlib.Core.Path.{◌≡◌}
-use native.Mathlib.Omega.{arith}
 use lib.ListN.{length}
-use lib.Seq.{paste, paste-zero}
-use borrow.Author.Rules.{rules}
-use Rattle.set_image.proofs.Pastes.{paste_more, paste_end}
+use lib.Seq.{paste}
 use Rattle.set_image.proofs.write.paste.Given as goal
 
 abbrev pub invariant-loop-i : goal.invariant-loop-i

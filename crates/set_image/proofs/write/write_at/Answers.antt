@@ -1,6 +1,5 @@
 -- SPDX-License-Identifier: Apache-2.0
 -- `set_image::write::write_at` meets its contract.
-use borrow.Author.Rules.{rules}
 use Rattle.set_image.proofs.Pastes.{image_at_lem, image_away}
 use Rattle.set_image.proofs.write.write_at.Goals as goal
 

@@ -1,7 +1,6 @@
 -- SPDX-License-Identifier: Apache-2.0
 -- `set_image::write::write_images` meets its contract: one image after the other.
 use mathlib.Core.Path.{ap, ◌∙◌}
-use borrow.Author.Rules.{rules}
 use Rattle.set_image.specs.Write.{image_in}
 use Rattle.set_image.proofs.write.write_images.Goals as goal
 

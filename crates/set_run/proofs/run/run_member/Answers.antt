@@ -1,6 +1,5 @@
 -- SPDX-License-Identifier: Apache-2.0
 -- `set_run::run::run_member` meets its contract.
-use borrow.Author.Rules.{rules}
 use borrow.Author.Tests.{lt-ltb, le-ltb}
 use Rattle.fm31.proofs.Entry.{size_positive}
 use Rattle.set_event.specs.Set.{held}

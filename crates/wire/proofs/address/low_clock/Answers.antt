@@ -2,7 +2,6 @@
 -- A clock of the second address byte: its eighth, at which the address is taken, and any other.
 use mathlib.Core.Path.{refl}
 use mathlib.Core.Bool.{true}
-use borrow.Author.Rules.{rules}
 use Rattle.wire.specs.Clock.{received}
 use Rattle.wire.specs.Kinds.{low_byte}
 use Rattle.wire.specs.Memory.{lent, pointed}

@@ -1,6 +1,5 @@
 -- SPDX-License-Identifier: Apache-2.0
 -- `push` gives the pushed byte, by the bit.
-use borrow.Author.Rules.{rules}
 use Rattle.wire.specs.Bits.{pushed}
 use Rattle.wire.proofs.bits.push.Goals as goal
 

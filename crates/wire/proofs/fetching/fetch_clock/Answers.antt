@@ -1,6 +1,5 @@
 -- SPDX-License-Identifier: Apache-2.0
 -- A clock of a data byte to the master: its eighth, at which the address steps on, and any other.
-use borrow.Author.Rules.{rules}
 use Rattle.wire.specs.Clock.{sent}
 use Rattle.wire.specs.Kinds.{memory_read}
 use Rattle.wire.specs.Memory.{lent, byte_at, stepped_on}

@@ -1,6 +1,5 @@
 -- SPDX-License-Identifier: Apache-2.0
 -- One clock more of the eight, or none.
-use borrow.Author.Rules.{rules}
 use borrow.Author.Tests.{lt-ltb, le-ltb}
 use Rattle.wire.proofs.nine.count.Goals as goal
 

@@ -1,6 +1,5 @@
 -- SPDX-License-Identifier: Apache-2.0
 -- A clock of a byte from the master: inside it, at its eighth clock, at its acknowledge.
-use borrow.Author.Rules.{rules}
 use Rattle.wire.proofs.Clock.{received_inside, received_last, received_ack}
 use Rattle.wire.proofs.nine.receive.Goals as goal
 

@@ -1,6 +1,5 @@
 -- SPDX-License-Identifier: Apache-2.0
 -- A clock of a byte to the master: its first, one of the next seven, the master's ninth.
-use borrow.Author.Rules.{rules}
 use Rattle.wire.proofs.Clock.{sent_first}
 use Rattle.wire.proofs.Handed.{outgoing_under, outgoing_ninth}
 use Rattle.wire.proofs.nine.send.Goals as goal

@@ -1,6 +1,5 @@
 -- SPDX-License-Identifier: Apache-2.0
 -- A slave byte is acknowledged exactly where it names somebody.
-use borrow.Author.Rules.{rules}
 use Rattle.wire.specs.Slave.{answers}
 use Rattle.wire.proofs.slave.answers.Goals as goal
 

@@ -2,7 +2,6 @@
 -- A clock of the first address byte, which is taken whatever it is.
 use mathlib.Core.Path.{refl}
 use mathlib.Core.Bool.{true}
-use borrow.Author.Rules.{rules}
 use Rattle.wire.specs.Kinds.{high_byte}
 use Rattle.wire.proofs.Handed.{received_seen}
 use Rattle.wire.proofs.slave.high_clock.Goals as goal

@@ -1,6 +1,5 @@
 -- SPDX-License-Identifier: Apache-2.0
 -- The phase that a slave byte opens, by whom it names.
-use borrow.Author.Rules.{rules}
 use Rattle.wire.specs.Slave.{opened}
 use Rattle.wire.proofs.slave.opened.Goals as goal
 

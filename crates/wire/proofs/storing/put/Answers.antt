@@ -1,7 +1,6 @@
 -- SPDX-License-Identifier: Apache-2.0
 -- A data byte is refused at a protected address, else stored.
 use mathlib.Core.Path.{refl, sym, ◌∙◌}
-use borrow.Author.Rules.{rules}
 use Rattle.wire.specs.Memory.{put_byte}
 use Rattle.wire.proofs.storing.put.Goals as goal
 

@@ -2,7 +2,6 @@
 -- A clock of a data byte from the master: its eighth, at which it is taken, and any other.
 use mathlib.Core.Path.{refl, sym, ap}
 use mathlib.Core.Bool.{true}
-use borrow.Author.Rules.{rules}
 use Rattle.wire.specs.Clock.{received}
 use Rattle.wire.specs.Kinds.{memory_byte}
 use Rattle.wire.specs.Memory.{lent, put_byte}

@@ -1,7 +1,6 @@
 -- SPDX-License-Identifier: Apache-2.0
 -- A refused byte leaves the bytes as they are, and steps the address.
 use mathlib.Core.Path.{refl}
-use borrow.Author.Rules.{rules}
 use Rattle.wire.specs.Memory.{refused_byte}
 use Rattle.wire.proofs.storing.refuse.Goals as goal
 

@@ -1,9 +1,6 @@
 -- SPDX-License-Identifier: Apache-2.0
 -- `wire_clocks::lay::lay` meets its contract: byte after byte: what was laid so far is the front of the list.
-use Prim.Native.Nat.{◌≤◌, ◌-◌}
-use mathlib.Core.Path.{◌≡◌}
-use lib.ListN.{length, take}
-use lib.Seq.{sets}
+use Prim.Native.Nat.{◌-◌}
 use Rattle.wire_clocks.proofs.Laying.{lay_more, laid_all}
 use borrow.Author.Rules.{rules}
 use Rattle.wire_clocks.proofs.lay.lay.Goals as goal

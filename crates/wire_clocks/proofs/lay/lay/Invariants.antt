@@ -4,8 +4,6 @@ use Prim.Native.Nat.{◌≤◌, ◌-◌}
 use mathlib.Core.Path.{◌≡◌}
 use lib.ListN.{length, take}
 use lib.Seq.{sets}
-use Rattle.wire_clocks.proofs.Laying.{lay_more, laid_all}
-use borrow.Author.Rules.{rules}
 use Rattle.wire_clocks.proofs.lay.lay.Given as goal
 
 abbrev pub invariant-loop-i : goal.invariant-loop-i

@@ -1,13 +1,10 @@
 -- SPDX-License-Identifier: Apache-2.0
 -- `wire_clocks::lay::lay_asked` meets its contract: each byte is one piece more.
 use Prim.Native.Nat.{◌+◌, ◌*◌, ◌≤◌, ◌-◌}
-use mathlib.Core.Path.{◌≡◌, ◌∙◌}
-use native.Mathlib.Omega.{arith}
+use mathlib.Core.Path.{◌≡◌}
 use lib.ListN.{length}
 use Rattle.wire_clocks.specs.Events.{asked_on}
 use Rattle.wire_clocks.specs.Code.Laid.{Laid}
-use Rattle.wire_clocks.proofs.Laying.{laid_none, laid_then, laid_length, asked_more}
-use borrow.Author.Rules.{rules}
 use Rattle.wire_clocks.proofs.lay.lay_asked.Given as goal
 
 abbrev pub invariant-loop-i : goal.invariant-loop-i

@@ -1,6 +1,5 @@
 -- SPDX-License-Identifier: Apache-2.0
 -- `wire_clocks::lay::lay_byte` meets its contract: the nine Clocks, laid as a list.
-use borrow.Author.Rules.{rules}
 use Rattle.wire_clocks.proofs.lay.lay_byte.Goals as goal
 
 pub returns : goal.returns

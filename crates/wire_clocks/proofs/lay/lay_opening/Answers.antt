@@ -1,7 +1,6 @@
 -- SPDX-License-Identifier: Apache-2.0
 -- `wire_clocks::lay::lay_opening` meets its contract: four pieces, one after another.
 use Rattle.wire_clocks.proofs.Laying.{laid_then}
-use borrow.Author.Rules.{rules}
 use Rattle.wire_clocks.proofs.lay.lay_opening.Goals as goal
 
 pub returns : goal.returns

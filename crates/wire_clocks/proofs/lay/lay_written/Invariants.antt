@@ -1,14 +1,10 @@
 -- SPDX-License-Identifier: Apache-2.0
 -- `wire_clocks::lay::lay_written` meets its contract: each byte is one piece more.
 use Prim.Native.Nat.{◌+◌, ◌*◌, ◌≤◌, ◌-◌}
-use mathlib.Core.Path.{◌≡◌, ◌∙◌}
-use native.Mathlib.Omega.{arith}
+use mathlib.Core.Path.{◌≡◌}
 use lib.ListN.{length, take}
-use lib.Seq.{take_all}
 use Rattle.wire_clocks.specs.Events.{all_written}
 use Rattle.wire_clocks.specs.Code.Laid.{Laid}
-use Rattle.wire_clocks.proofs.Laying.{laid_none, laid_then, laid_length, written_more}
-use borrow.Author.Rules.{rules}
 use Rattle.wire_clocks.proofs.lay.lay_written.Given as goal
 
 abbrev pub invariant-loop-i : goal.invariant-loop-i

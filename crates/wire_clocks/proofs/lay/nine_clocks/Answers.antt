@@ -1,6 +1,5 @@
 -- SPDX-License-Identifier: Apache-2.0
 -- `wire_clocks::lay::nine_clocks` meets its contract: each element is the Clock of one bit.
-use borrow.Author.Rules.{rules}
 use Rattle.wire_clocks.proofs.lay.nine_clocks.Goals as goal
 
 pub returns : goal.returns

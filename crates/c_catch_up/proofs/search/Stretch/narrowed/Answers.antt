@@ -4,7 +4,6 @@ use native.Mathlib.Omega.{arith}
 use mathlib.Core.Path.{sym, ◌∙◌}
 use native.Mathlib.Nat.{mod-lt}
 use Rattle.c_catch_up.proofs.Narrow.{passes_one, narrowed_none, narrowed_any, narrowed_one, unit_below}
-use borrow.Author.Rules.{rules}
 use Rattle.c_catch_up.proofs.search.Stretch.narrowed.Goals as goal
 
 pub overflow_add-result : goal.overflow_add-result
