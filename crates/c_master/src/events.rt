@@ -4,7 +4,7 @@
 ghost use Rattle.c_master.specs.Outcome.{WriteEventsSettled, ReadEventsSettled};
 
 use crate::Filled;
-use crate::numbers::{
+use crate::refusals::{
     LITTLE_ROOM, MOST, READ_OF_NONE, TOO_MANY, WRONG_ADDRESS, filled, read_count, refuse,
     write_count,
 };

@@ -9,7 +9,7 @@ ghost use Rattle.c_master.specs.Told.{line_at, is_low, byte_from, is_open, is_op
 ghost use Rattle.c_master.specs.Outcome.{WriteToldSettled, ReadToldSettled};
 
 use crate::Filled;
-use crate::numbers::{
+use crate::refusals::{
     LITTLE_ROOM, MOST, READ_OF_NONE, TOO_MANY, WRONG_ANSWERS, filled, read_count, refuse,
     write_count,
 };

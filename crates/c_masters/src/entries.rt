@@ -10,7 +10,7 @@ use fm3130_accept::is_image;
 use fm3130_image::MEMORY;
 use fm3130_list::all_known;
 use masters_hold::Standing;
-use masters_hold::bus::{free_after, master_number, may_ask, may_call, standing};
+use masters_hold::bus_byte::{free_after, master_number, may_ask, may_call, standing};
 use numbers::{ACCEPTED, NOT_HELD, SHORT_ANSWERS, UNKNOWN_EVENT, WRONG_MEMORY, WRONG_STATE};
 
 // A master asks for the bus: it is refused, with nothing changed, or holds it.

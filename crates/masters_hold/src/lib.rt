@@ -1,10 +1,10 @@
 // SPDX-License-Identifier: Apache-2.0
 // Who holds a bus that two masters share.
 //
-// bus   the lent byte that says it, what a master may do with the bus, and when a list of events frees it
+// bus_byte   the lent byte that says it, what a master may do with the bus, and when a list of events frees it
 #![tactic(auto)]
 
-pub mod bus;
+pub mod bus_byte;
 
 // The rig's own controller, and the maintainer's handheld.
 #[derive(Clone, Copy)]

@@ -3,7 +3,7 @@
 use mathlib.Core.Path.{sym}
 use Rattle.fm3130.specs.Event.{happening}
 use Rattle.masters_hold.proofs.Lists.{freed_other}
-use Rattle.masters_hold.proofs.bus.freed_by.Goals as goal
+use Rattle.masters_hold.proofs.bus_byte.freed_by.Goals as goal
 
 pub returns-in-0 : goal.returns-in-0
 unfolding happening

@@ -2,7 +2,7 @@
 -- The tests of the lent byte and of the number, each way by its law.
 use mathlib.Core.Path.{sym}
 use Rattle.masters_hold.proofs.Known.{standing_long, standing_byte, standing_below, standing_above, standing_known}
-use Rattle.masters_hold.proofs.bus.standing.Goals as goal
+use Rattle.masters_hold.proofs.bus_byte.standing.Goals as goal
 
 pub returns-then-bus-ne1 : goal.returns-then-bus-ne1
 returns-then-bus-ne1 c = sym (standing_long _ _ c.if-bus-ne1.true)

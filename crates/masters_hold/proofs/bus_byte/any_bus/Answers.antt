@@ -4,7 +4,7 @@ use Prim.Native.Nat.{◌-◌}
 use mathlib.Core.Path.{sym, ◌∙◌}
 use borrow.Author.Rules.{rules}
 use Rattle.masters_hold.proofs.Lists.{any_more, any_end}
-use Rattle.masters_hold.proofs.bus.any_bus.Goals as goal
+use Rattle.masters_hold.proofs.bus_byte.any_bus.Goals as goal
 
 pub loop-i-preserved : goal.loop-i-preserved
 loop-i-preserved c =

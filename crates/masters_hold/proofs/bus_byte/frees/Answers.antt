@@ -5,7 +5,7 @@ use mathlib.Core.Path.{sym, ◌∙◌}
 use mathlib.Core.Bool.{false}
 use borrow.Author.Rules.{rules}
 use Rattle.masters_hold.proofs.Lists.{frees_more, frees_end}
-use Rattle.masters_hold.proofs.bus.frees.Goals as goal
+use Rattle.masters_hold.proofs.bus_byte.frees.Goals as goal
 
 pub loop-i-preserved : goal.loop-i-preserved
 loop-i-preserved c =

@@ -5,7 +5,7 @@ use mathlib.Core.Path.{◌≡◌}
 use mathlib.Core.Bool.{false}
 use lib.ListN.{length, drop}
 use Rattle.masters_hold.specs.Bus.{frees}
-use Rattle.masters_hold.proofs.bus.frees.Given as goal
+use Rattle.masters_hold.proofs.bus_byte.frees.Given as goal
 
 abbrev pub invariant-loop-i : goal.invariant-loop-i
 invariant-loop-i l = (l.i ≤ length l.events) × (frees l.freed (drop l.i l.events) ≡ frees false l.events)
