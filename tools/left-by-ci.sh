@@ -1,12 +1,12 @@
 #!/bin/sh
 # SPDX-License-Identifier: Apache-2.0
 # left-by-ci.sh --begin; left-by-ci.sh --note; left-by-ci.sh CRATE...: whether the built libraries of these crates are those that
-# `rt ci` has just made of the files as they are. The status is 0 if all are.
+# `rt ci` made of the files as they are. The status is 0 if all are.
 #
 # `rt lib` and `rt check` take a library only where rt has left a stamp beside it, and `rt ci` leaves none: they would prove a second
-# time what it has just proved. So tools/test.sh marks the time (--begin) before `rt ci`, and notes in build/left-by-ci after it
+# time what it has proved. So tools/test.sh marks the time (--begin) before `rt ci`, and adds to build/left-by-ci after it
 # (--note), for each library that is newer than that mark, the sums of what it was made from and of what was made. Where `rt ci` found
-# libraries of earlier checks it puts them back in the end: those are older, have stamps, and are not noted.
+# libraries of earlier runs it puts them back in the end: those are older, and what was noted of them still stands.
 set -eu
 
 [ $# -ge 1 ] || { echo "usage: left-by-ci.sh --begin|--note|CRATE..." >&2; exit 2; }
@@ -23,7 +23,6 @@ line_of() { # CRATE
 case $1 in
 --begin)
     mkdir -p build
-    rm -f "$noted"
     : >"$mark"
     ;;
 --note)
@@ -31,7 +30,8 @@ case $1 in
         crate=${folder#crates/}
         crate=${crate%%/*}
         [ ! -d "$folder" ] || [ -e "$folder/stamp" ] || [ -z "$(find "$folder" -maxdepth 0 -newer "$mark")" ] || line_of "$crate"
-    done >"$noted"
+    done >>"$noted"
+    LC_ALL=C sort -u -o "$noted" "$noted"
     ;;
 *)
     [ -s "$noted" ] || exit 1
