@@ -51,7 +51,8 @@ rule is a twin, a device wrong in definition and code alike, which the law must 
 `law_alarm` and `law_phases` in place of edits (D236).
 
 What `f` ensures is the contract of the function `f`; law `F.l` is the law `l` in the file F of the crate's proofs. Where `a` is
-not `b`, these are two terms that had to be one, shortened; one that only the prover can read is left out.
+not `b`, these are two terms that had to be one, shortened; one that only the prover can read is left out. rt tells the first 160 letters
+of what failed, so of a long message the terms are missing.
 
 "#;
 

@@ -509,8 +509,8 @@ fn the_axioms_are_those_of_the_functions_called() {
         assert_eq!(number, called.len().to_string(), "{row}");
         for owner in names_in(&[row], 1) {
             let program = text_of(&top().join("crates").join(&owner).join("src/main.rt"));
-            for (file, function) in [("STDIN_FILENO", "read"), ("STDOUT_FILENO", "write")] {
-                assert_eq!(program.contains(file), called.contains(function), "{owner}");
+            for (handle, function) in [("impl Read", "read"), ("impl Print", "write")] {
+                assert_eq!(program.contains(handle), called.contains(function), "{owner}");
             }
         }
     }
