@@ -238,7 +238,7 @@ test_example() {
 # Bytes of a firmware's parts: the crates that it calls, and pins.c.
 say_sizes() {
     printf '%-12s %-34s %8s %8s\n' target part text data
-    awk '$2 == "rig" || $2 == "c_pins" || $2 == "single" || $2 == "line" { printf "%-12s %-34s %8d %8d\n", $1, "crate " $2, $3, $4 }' "$built/sizes.txt"
+    awk '$2 ~ /^(c_run_c|c_pins_c|c_step|c_line_c)$/ { printf "%-12s %-34s %8d %8d\n", $1, "crate " $2, $3, $4 }' "$built/sizes.txt"
     for target in $controller_targets; do
         # shellcheck disable=SC2046,SC2086 # one word an option
         "$tools/clang" $(options_for "$target") $strict -isystem "$(cc -print-file-name=include)" -Iinclude -Ifirmware \
