@@ -4,7 +4,7 @@
 # says of it. One object needs the functions that are named there, which firmware/runtime.c has. FOLDER is made anew.
 set -euo pipefail
 
-needing=c_judge_c.o
+needing='c_judge*.o'
 needed='memcpy memset'
 
 folder=$1
@@ -27,9 +27,10 @@ mkdir -p "$folder/objects"
 
 count=0
 for object in "$folder"/objects/*.o; do
-    if [ "${object##*/}" = "$needing" ]; then
+    # shellcheck disable=SC2053 # a pattern
+    if [[ ${object##*/} == $needing ]]; then
         missing=$(nm -u "$object" | awk '{ print $2 }' | LC_ALL=C sort | paste -sd' ')
-        [ "$missing" = "$needed" ] || fail "$needing needs '$missing', and not '$needed' as include/fm3130.h says"
+        [ "$missing" = "$needed" ] || fail "${object##*/} needs '$missing', and not '$needed' as include/fm3130.h says"
         linked "$@" "$object" "$runtime"
     else
         linked "$@" "$object"
@@ -37,4 +38,4 @@ for object in "$folder"/objects/*.o; do
     count=$((count + 1))
 done
 [ "$count" -gt 10 ] || fail "$count objects are few"
-echo "ctest: $archive: $count objects link without a library; $needing needs $needed"
+echo "ctest: $archive: $count objects link without a library; that of c_judge needs $needed"
