@@ -122,7 +122,7 @@ ctest: library host ## the archives through the C headers (the official one too)
 	@$(PATIENT) 'being tested' tools/run-x86-64.sh build/ctest/official $(FRAMES)
 	@build/ctest/plusplus
 	@tests/c/library.sh
-	@tests/c/install.sh build/ctest/install $(CC)
+	@tests/c/install.sh $(CC)
 	@tests/c/alone.sh build/ctest/alone build/lib/libfm3130.a $(CC)
 	@tests/c/alone.sh build/ctest/alone build/lib/x86_64/libfm3130.a $(CC_X86_64)
 	@tests/c/host.sh $(HOST) build/ctest/host

@@ -1,7 +1,8 @@
 #!/bin/sh
 # SPDX-License-Identifier: Apache-2.0
 # install.sh install|uninstall PREFIX [DESTDIR]: puts the command, its manual and completions, the library, the headers and the pages
-# that these cite below DESTDIR and PREFIX, or takes exactly these away: a list of them is installed too.
+# that these cite below DESTDIR and PREFIX, or takes exactly these away: a list of them is installed too. Below the repository itself
+# a copy is put where a link would be, since `rt ci` refuses links.
 set -eu
 
 fail() { printf 'install: %s\n' "$*" >&2; exit 1; }
@@ -39,7 +40,12 @@ list() {
 install_one() { # HOW FROM TO
     mkdir -p "$(dirname "$below/$3")"
     case $1 in
-    link) ln -sf "$2" "$below/$3" ;;
+    link)
+        case $below in
+        "$PWD"/*) cp "$(dirname "$below/$3")/$2" "$below/$3" ;;
+        *) ln -sf "$2" "$below/$3" ;;
+        esac
+        ;;
     *) install -m "$1" "$2" "$below/$3" ;;
     esac
 }

@@ -1,19 +1,19 @@
 #!/usr/bin/env bash
 # SPDX-License-Identifier: Apache-2.0
-# install.sh FOLDER COMPILER: `make install` puts a command, a library, manual pages and completions below a folder that work there,
-# with every page that the headers cite, and `make uninstall` takes exactly these away. FOLDER is made anew.
+# install.sh COMPILER: `make install` puts a command, a library, manual pages and completions below a folder that work there,
+# with every page that the headers cite, and `make uninstall` takes exactly these away. The folder lies outside the repository,
+# below which no links are installed.
 set -euo pipefail
 
-folder=$1
-compiler=$2
+compiler=$1
+folder=$(mktemp -d)
+trap 'rm -rf "$folder"' EXIT
 fail() { printf 'install.sh: %s\n' "$*" >&2; exit 1; }
 
-rm -rf "$folder"
-trap 'find "$folder" -type l -delete' EXIT # `rt ci` refuses links
 mkdir -p "$folder/to/usr/lib"
 echo 'of somebody else' >"$folder/to/usr/lib/libother.a"
 installed=$folder/to/usr
-make --no-print-directory install DESTDIR="$PWD/$folder/to" PREFIX=/usr >"$folder/said"
+make --no-print-directory install DESTDIR="$folder/to" PREFIX=/usr >"$folder/said"
 
 # The command, and its version, which is the header's.
 version=$(sed -n 's/^.define FM3130_VERSION "\(.*\)"$/\1/p' "$installed/include/fm3130.h")
@@ -59,7 +59,7 @@ offers 'fm3130 help scr' script
 offers 'fm3130 run Makef' Makefile
 
 # All is gone again, and nothing else.
-make --no-print-directory uninstall DESTDIR="$PWD/$folder/to" PREFIX=/usr >>"$folder/said"
+make --no-print-directory uninstall DESTDIR="$folder/to" PREFIX=/usr >>"$folder/said"
 left=$(cd "$folder/to" && find . ! -type d)
 [ "$left" = ./usr/lib/libother.a ] || fail "make uninstall left: $left"
 echo "ctest: $(sed -n 's/^\(installed [0-9]* files\) below.*/\1/p' "$folder/said") and took them away again"
