@@ -39,7 +39,7 @@ sum_of() { # CRATE...
         rt version
         echo "$machine"
         sha256sum tools/native-archive.sh tools/controller-options.sh
-        for name in "$@"; do grep "^$name[ :]" crates.txt; done
+        for name in "$@"; do grep "^${name}[ :]" crates.txt; done
         for name in "$@"; do
             for part in src specs proofs; do [ ! -d "crates/$name/$part" ] || printf '%s\0' "crates/$name/$part"; done
         done | xargs -0 -I{} find {} -type f | LC_ALL=C sort | xargs sha256sum
@@ -106,6 +106,7 @@ logged() { # WHAT COMMAND...
 
 # The words that `rt lib` gives to rattle, but for the toolchain. The crates that it names, and those below them:
 set -- --crate-name "$crate" src/lib.rt --extern "std=$kit/rlibs/std.rlib" -L "dependency=$kit/rlibs"
+# shellcheck disable=SC2013 # one word a crate
 for name in $(sed -n "s/^$crate staticlib *://p" crates.txt); do
     set -- "$@" --extern "$name=$top/crates/$name/out/rlib/$name.rlib"
 done
