@@ -73,7 +73,10 @@ class Twin:
             return f"{unproved[0]} refused it, before {self.law}"
         if re.search(r"/(Proof|Answers|Invariants)\.antt:\d+:\d+: error|^fn \S+: (not proved|no proof)|: it is not proved that ", said, re.M):
             return f"its code does not meet its definition in {self.law}"
-        spared = [law for law in self.laws if f"error: `{law}`" not in said]
+        # a law whose own lemma is refused is not checked, and named
+        unchecked = re.findall(r"error: .*rejected, (?:was|were) not checked: (.+)$", said, re.M)
+        refused = {*re.findall(r"error: `([\w-]+)`", said), *re.findall(r"[\w-]+", " ".join(unchecked))}
+        spared = [law for law in self.laws if law not in refused]
         if spared:
             return f"{self.law} refused it, but not by {', '.join(spared)}"
         return None
