@@ -37,8 +37,10 @@ COUNTING := scripts/counting.bus
 # Frames of events, and the lines that the second program wrote for them.
 FRAMES := crates/main_standin/stdin crates/main_standin/stdout
 
-# The firmware's part that is tested on this machine too, with a bit-banging master.
-PINS := -Ifirmware -Itests/wires firmware/pins.c tests/wires/*.c
+# The firmware's two parts that are tested on this machine too, with a bit-banging master.
+WIRES := -Ifirmware -Itests/wires tests/wires/*.c
+PINS := $(WIRES) firmware/pins.c
+LEVELS := -DWIRES_LEVELS $(WIRES) firmware/levels.c tests/levels/*.c
 
 # How long `make fuzz` runs each of its targets.
 SECONDS := 200
@@ -116,10 +118,14 @@ ctest: library host ## the archives through the C headers (the official one too)
 	@mkdir -p build/ctest
 	@$(CC) $(C99) $(PINS) tests/c/*.c build/lib/libfm3130.a -o build/ctest/native
 	@$(CC_X86_64) $(C99) $(PINS) -static tests/c/*.c build/lib/x86_64/libfm3130.a -o build/ctest/official
+	@$(CC) $(C99) $(LEVELS) build/lib/libfm3130.a -o build/ctest/levels
+	@$(CC_X86_64) $(C99) $(LEVELS) -static build/lib/x86_64/libfm3130.a -o build/ctest/levels-official
 	@$(CXX) $(STRICT) tests/c/plusplus.cc build/lib/libfm3130.a -o build/ctest/plusplus
 	@$(CC_X86_64) $(C99) -m32 -ffreestanding -fsyntax-only -x c include/fm31.h
 	@build/ctest/native $(FRAMES)
 	@$(PATIENT) 'being tested' tools/run-x86-64.sh build/ctest/official $(FRAMES)
+	@build/ctest/levels
+	@$(PATIENT) 'being tested' tools/run-x86-64.sh build/ctest/levels-official
 	@build/ctest/plusplus
 	@tests/c/library.sh
 	@tests/c/install.sh $(CC)

@@ -2,9 +2,8 @@
 /*
  * pins.h: the proved device on the pins of a controller, for firmware in C without a library.
  *
- * It reads SCL and SDA, hands what it sees to the proved archive (fm3130_pins_look and the others of
- * fm3130.h), sets SDA as that says, open drain, and never touches SCL. No rule of the part or of the
- * bus stands here.
+ * It turns the levels of SCL and SDA into the events of fm3130.h, drives SDA as the device does,
+ * open drain, and never touches SCL. No rule of the part stands here: the proved archive is asked.
  *
  *   static uint8_t image[FM3130_IMAGE_BYTES], memory[FM3130_MEMORY_BYTES];
  *   static struct pins pins;
@@ -27,8 +26,6 @@
 
 #include <stdint.h>
 
-#include "fm3130.h"
-
 /*
  * What the board gives: four small functions, which do nothing else.
  * A level is 0 for low; any other number is high.
@@ -38,20 +35,30 @@ int pins_read_sda(void);
 void pins_pull_sda(void);    /* SDA low */
 void pins_release_sda(void); /* SDA let go: the resistor or somebody else decides */
 
+/*
+ * Why the device has left the bus, beside enum fm3130_number: the controller was not quick enough,
+ * so that a bit on the wire may have been another than the device's.
+ */
+#define PINS_LATE 0x80u
+
 /* One device on its pins. The board may read all of it; only the functions below write it. */
 struct pins {
     uint8_t *image;  /* lent, 64 bytes */
     uint8_t *memory; /* lent, 8,192 bytes */
-    uint64_t word;   /* what is known between two looks; its bits are in fm3130.h */
-    uint8_t seen;    /* the levels that the last look has left */
+    uint16_t line;   /* what fm3130_line told after the last event */
     uint8_t number;  /* 0, or why the device has left the bus */
-    uint8_t answer;  /* as of an event that is no Clock: the ACS pin's function, the alarm */
+    uint8_t answer;  /* the last event's: the ACS pin's function, the alarm; 1 if there was none */
+    uint8_t scl;     /* the levels at the last look, 0 or 1; of SDA, while SCL was high */
+    uint8_t sda;
+    uint8_t is_open;    /* SCL has risen, and neither its fall nor a Start or Stop was seen */
+    uint8_t is_pulling; /* the device pulls SDA */
+    uint8_t waiting;    /* a tick or power event that waits for the pulse's end; 0 for none */
 };
 
 /*
  * Begins with a device in the two buffers, in the middle of a transfer too, and with SDA released.
- * A pulse under way is not counted. Returns 0, 2 where the image is refused, or FM3130_PINS_LATE
- * where SCL rose before SDA was pulled.
+ * A pulse under way is not counted. Returns 0, 2 where the image is refused, or PINS_LATE where SCL
+ * rose before SDA was pulled.
  */
 unsigned pins_begin(struct pins *pins, uint8_t *image, uint8_t *memory);
 
@@ -60,8 +67,8 @@ unsigned pins_begin(struct pins *pins, uint8_t *image, uint8_t *memory);
  * one of them.
  *
  * Start and Stop are done when SDA turns while SCL is high. A Clock is a whole pulse, done when SCL
- * falls, with the level that SDA had at its rise. At the fall SDA is driven first, by what was known
- * before, then the event is done and the lines of the next Clocks are asked.
+ * falls, with the level that SDA had at its rise. At the fall SDA is driven first, by what
+ * fm3130_line said before, then the event is done and the line is asked again.
  *
  * Returns 0, or the number under which the device has left the bus: SDA is released, and no later
  * look, tick or power event does anything until pins_begin. See docs/CONTROLLER.md, "Refusals".

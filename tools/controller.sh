@@ -22,7 +22,6 @@ sources=tests/controller
 wires='tests/wires/wires.c tests/wires/master.c tests/wires/sessions.c'
 frames=crates/main_standin/stdin
 lines=crates/main_standin/stdout
-ceilings=$sources/ceilings.txt
 expected=firmware/example/expected.txt
 
 # What is played on the wires: a tick at every n-th place of the session, and of the turn of a year; times of noise.
@@ -85,6 +84,9 @@ defines_for() { # TARGET
     case $1 in thumbv6m) echo -DWIRES_ONE_MEMORY ;; esac
 }
 
+# And which firmware is at the end of the wires (run_program).
+firmware=
+
 # Links a program of these C files, by the kit's tools or by GCC.
 link_by_kit() { # TARGET SCRIPT ARCHIVE INCLUDE PROGRAM SOURCE...
     target=$1 script=$2 archive=$3 include=$4 program=$5
@@ -92,7 +94,7 @@ link_by_kit() { # TARGET SCRIPT ARCHIVE INCLUDE PROGRAM SOURCE...
     rm -f "$work"/*.c.o
     for source in "$@"; do
         # shellcheck disable=SC2046,SC2086 # one word an option
-        "$tools/clang" $(options_for "$target") $strict $(defines_for "$target") \
+        "$tools/clang" $(options_for "$target") $strict $(defines_for "$target") $firmware \
             -isystem "$(cc -print-file-name=include)" -I"$include" -Ifirmware \
             -c "$source" -o "$work/$(echo "$source" | tr / _).o" || fail "$source: not compiled for $target"
     done
@@ -104,7 +106,7 @@ link_by_gcc() { # TARGET SCRIPT ARCHIVE INCLUDE PROGRAM SOURCE...
     target=$1 script=$2 archive=$3 include=$4 program=$5
     shift 5
     # shellcheck disable=SC2046,SC2086 # one word an option
-    $(gcc_for "$target") $strict $(defines_for "$target") -I"$include" -Ifirmware -nostdlib -nostartfiles \
+    $(gcc_for "$target") $strict $(defines_for "$target") $firmware -I"$include" -Ifirmware -nostdlib -nostartfiles \
         -Wl,--gc-sections,-z,noexecstack -L"$(dirname "$script")" -T "$script" "$@" "$archive" -lgcc -o "$program" ||
         fail "$program: not linked for $target by GCC"
 }
@@ -114,7 +116,9 @@ files_of() { # PROGRAM BOARD
     case $1 in
     count) echo "$sources/count.c" "$sources/table.c" ;;
     cost) echo "$sources/cost.c" "$sources/table.c" tests/wires/master.c tests/wires/sessions.c firmware/pins.c ;;
+    cost_levels) echo "$sources/cost_levels.c" "$sources/table.c" tests/wires/master.c tests/wires/sessions.c firmware/levels.c ;;
     wires) echo "$sources/wires.c" "$wires" firmware/pins.c ;;
+    wires_levels) echo "$sources/wires.c" "$wires" firmware/levels.c ;;
     *) echo "$sources/$1.c" ;;
     esac
     echo "$sources/support.c" "$sources/$2.c" firmware/runtime.c
@@ -126,6 +130,7 @@ run_program() { # BY TARGET ARCHIVE INCLUDE PROGRAM WORD...
     shift 5
     board=$(board_for "$target")
     elf=$work/$program.$target.$by
+    case $program in *_levels) firmware=-DWIRES_LEVELS ;; *) firmware= ;; esac
     # shellcheck disable=SC2046 # one word a file
     "link_by_$by" "$target" "$sources/$board.ld" "$archive" "$include" "$elf" $(files_of "$program" "$board")
     emulate "$board" "$elf" "$@" >"$work/out" || { cat "$work/out" >&2; fail "$program on $target ($by) FAILED"; }
@@ -140,8 +145,9 @@ counted_rows() { # TARGET
     awk -F'\t' -v target="$1" '{ printf "%-12s %-34s %8d %8d %8d %8s\n", target, $1, $2, $3, $4, $5 ? $5 : "" }' "$work/out"
 }
 
-# Every row that was counted has a ceiling in the file and stays below it.
-check_ceilings() { # TARGET
+# Every row that was counted has a ceiling in the program's file and stays below it.
+check_ceilings() { # TARGET PROGRAM
+    case $2 in cost_levels) ceilings=$sources/ceilings_levels.txt ;; *) ceilings=$sources/ceilings.txt ;; esac
     awk -F'\t' -v target="$1" '
         NR == FNR { if ($1 == target) most[$2] = $3; next }
         !($1 in most) { printf "controller: %s: no ceiling for: %s\n", target, $1; bad = 1; next }
@@ -179,10 +185,10 @@ passed() { # TARGET WHAT
 test_target() { # TARGET
     archive=$built/$1/libfm3130.a
     test_header "$1"
-    for program in count cost; do
-        case $program in count) word=$frames ;; cost) word=$cost_stride ;; esac
+    for program in count cost cost_levels; do
+        case $program in count) word=$frames ;; *) word=$cost_stride ;; esac
         run_program kit "$1" "$archive" include $program "$word"
-        check_ceilings "$1"
+        check_ceilings "$1" "$program"
         counted_rows "$1" >>"$work/counted"
     done
     run_program kit "$1" "$archive" include refusals
@@ -194,12 +200,18 @@ test_target() { # TARGET
     # shellcheck disable=SC2086 # three words
     run_program kit "$1" "$archive" include wires $wires_words
     passed "$1" "a master on the wires" >>"$work/passed"
+    # shellcheck disable=SC2086 # three words
+    run_program kit "$1" "$archive" include wires_levels $wires_words
+    passed "$1" "the same, by levels.c" >>"$work/passed"
     [ -n "$(gcc_for "$1")" ] || return 0
     run_program gcc "$1" "$archive" include refusals
     passed "$1" "K12 and refusals, callers by GCC" >>"$work/passed"
     # shellcheck disable=SC2086 # three words
     run_program gcc "$1" "$archive" include wires $wires_words_gcc
     passed "$1" "a master on the wires, by GCC" >>"$work/passed"
+    # shellcheck disable=SC2086 # three words
+    run_program gcc "$1" "$archive" include wires_levels $wires_words_gcc
+    passed "$1" "the same, by levels.c and GCC" >>"$work/passed"
 }
 
 # A function that returns two words is an error of compilation where the archive returns them in another way.
@@ -235,16 +247,18 @@ test_example() {
     printf '%-12s %-34s %s\n' thumbv7em "the example's words" "as $expected" >>"$work/passed"
 }
 
-# Bytes of a firmware's parts: the crates that it calls, and pins.c.
+# Bytes of a firmware's parts: the static libraries that it calls, pins.c and levels.c.
 say_sizes() {
     printf '%-12s %-34s %8s %8s\n' target part text data
     awk '$2 ~ /^(c_run_c|c_pins_c|c_step|c_line_c)$/ { printf "%-12s %-34s %8d %8d\n", $1, "crate " $2, $3, $4 }' "$built/sizes.txt"
     for target in $controller_targets; do
-        # shellcheck disable=SC2046,SC2086 # one word an option
-        "$tools/clang" $(options_for "$target") $strict -isystem "$(cc -print-file-name=include)" -Iinclude -Ifirmware \
-            -c firmware/pins.c -o "$work/pins.o"
-        size "$work/pins.o" |
-            awk -v target="$target" 'NR == 2 { printf "%-12s %-34s %8d %8d\n", target, "pins.c", $1, $2 + $3 }'
+        for part in pins levels; do
+            # shellcheck disable=SC2046,SC2086 # one word an option
+            "$tools/clang" $(options_for "$target") $strict -isystem "$(cc -print-file-name=include)" -Iinclude -Ifirmware \
+                -c "firmware/$part.c" -o "$work/$part.o"
+            size "$work/$part.o" |
+                awk -v target="$target" -v part="$part.c" 'NR == 2 { printf "%-12s %-34s %8d %8d\n", target, part, $1, $2 + $3 }'
+        done
     done
 }
 

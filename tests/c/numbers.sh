@@ -11,11 +11,11 @@ guide=$1/guide
 shift
 rm -rf "$folder"
 mkdir -p "$folder"
-declared='^(uint64_t|unsigned|struct [a-z0-9_]+) ((fm31|pins)[a-z0-9_]*)\(.*'
+declared='^(uint64_t|unsigned|struct [a-z0-9_]+) ((fm31|pins|levels)[a-z0-9_]*)\(.*'
 {
-    printf '#include "%s"\n' fm3130.h fm31.h pins.h
+    printf '#include "%s"\n' fm3130.h fm31.h pins.h levels.h
     echo '#define LOOKED_AT(entry) extern __typeof__(entry) entry __attribute__((warn_unused_result))'
-    sed -nE "s/$declared/LOOKED_AT(\2);/p" include/fm3130.h include/fm31.h firmware/pins.h
+    sed -nE "s/$declared/LOOKED_AT(\2);/p" include/fm3130.h include/fm31.h firmware/{pins,levels}.h
 } >"$folder/numbers.h"
 entries=$(grep -c '^LOOKED_AT' "$folder/numbers.h")
 
@@ -32,9 +32,11 @@ if [ "$entries" -lt 30 ] || compiles "$folder/drop.c" "$@" 2>/dev/null; then
 fi
 files=0
 boards='tests/controller/(m0|m4|riscv32)\.c'
-for file in host/*.c firmware/*.c firmware/example/firmware.c tests/{wires,c,controller}/*.c fuzz/*.c "$guide"/*.c; do
+for file in host/*.c firmware/*.c firmware/example/firmware.c tests/{wires,levels,c,controller}/*.c fuzz/*.c "$guide"/*.c; do
     [[ $file =~ $boards ]] && continue
     compiles "$file" "$@" || { echo "numbers.sh: $file: see above" >&2; exit 1; }
+    # The same wires, with firmware/levels.c at their end.
+    [[ $file != tests/wires/* ]] || compiles "$file" "$@" -DWIRES_LEVELS || { echo "numbers.sh: $file: see above" >&2; exit 1; }
     files=$((files + 1))
 done
 echo "ctest: no number of $entries entries is dropped in $files files"

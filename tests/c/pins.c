@@ -1,7 +1,8 @@
 /* SPDX-License-Identifier: Apache-2.0 */
 /*
  * firmware/pins.c with the archive of this machine: the sessions of tests/wires, which `make
- * controller` plays on emulated controllers with more ticks in them.
+ * controller` plays on emulated controllers with more ticks in them. tests/levels plays them with
+ * firmware/levels.c, whose entries are called here by themselves.
  */
 #include <string.h>
 

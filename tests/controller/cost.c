@@ -97,24 +97,20 @@ static void measure(struct row *row, measurable *what, uint32_t event) {
     row->stack = stack > row->stack ? stack : row->stack;
 }
 
-static unsigned has(uint64_t bits) {
-    return (pins.word & bits) != 0;
-}
-
 static enum kind kind_of_look(void) {
-    if (!scl && has(FM3130_PINS_SCL)) {
-        if (!has(FM3130_PINS_OPEN)) {
+    if (!scl && pins.scl) {
+        if (!pins.is_open) {
             return AFTER_START;
         }
-        if (has(FM3130_PINS_WAITING)) {
+        if (pins.waiting) {
             return FALL_WITH_TICK;
         }
         return image[CLOCKS_AT] == BEFORE_EIGHTH ? EIGHTH : FALL;
     }
-    if (scl && !has(FM3130_PINS_SCL)) {
+    if (scl && !pins.scl) {
         return RISE;
     }
-    return scl && sda_level() != has(FM3130_PINS_SDA) ? TURN : IDLE;
+    return scl && sda_level() != pins.sda ? TURN : IDLE;
 }
 
 static void look(void) {
@@ -148,7 +144,7 @@ void set_sda(uint8_t level) {
 }
 
 void due(uint8_t event) {
-    if (has(FM3130_PINS_OPEN)) {
+    if (pins.is_open) {
         check_equal("pins_due", pins_due(&pins, event), FM3130_OK);
         ticks_waiting += event == FM3130_TICK;
     } else {

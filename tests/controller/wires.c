@@ -1,7 +1,7 @@
 /* SPDX-License-Identifier: Apache-2.0 */
 /*
- * wires STRIDE STRIDE TIMES: the bit-banging master of tests/wires against firmware/pins.c, on the
- * board.
+ * wires STRIDE STRIDE TIMES: the bit-banging master of tests/wires against firmware/pins.c, or
+ * with WIRES_LEVELS firmware/levels.c, on the board.
  */
 #include "../wires/wires.h"
 #include "board.h"

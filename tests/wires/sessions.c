@@ -5,7 +5,6 @@
  * and what makes the device leave the bus.
  */
 #include "fm3130.h"
-#include "pins.h"
 #include "wires.h"
 
 enum {

@@ -3,7 +3,6 @@
 #include "wires.h"
 
 #include "fm3130.h"
-#include "pins.h"
 
 enum { CLOCKS_AT = 27, BEFORE_EIGHTH = 7, MOST_WAITING = 8 };
 

@@ -1,8 +1,8 @@
 /* SPDX-License-Identifier: Apache-2.0 */
 /*
  * Two wires with a resistor each, a bit-banging master that knows only levels, and firmware/pins.c
- * at the other end. It runs on this machine (tests/c/pins.c) and on emulated controllers
- * (tests/controller/wires.c).
+ * or firmware/levels.c at the other end (device.h). It runs on this machine (tests/c/pins.c,
+ * tests/levels) and on emulated controllers (tests/controller/wires.c).
  *
  * Beside it goes a reference: another image, on which the events that the levels mean are done one
  * by one. The line of every Clock and, after every transfer, the image must be the reference's; and
@@ -12,6 +12,8 @@
 #define WIRES_H
 
 #include <stdint.h>
+
+#include "device.h"
 
 /* By the program: says what differs and ends it. */
 void wires_differ(const char *what, uint32_t is, uint32_t must_be);
@@ -71,7 +73,6 @@ void check_device(void);
 uint32_t ticks_at_clock(void);
 
 /* The device as the wires have it. */
-struct pins;
 struct pins *device(void);
 uint8_t *device_image(void);
 uint8_t *device_memory(void);
