@@ -335,6 +335,24 @@ fn each_form_and_each_enum_has_one_point() {
     assert!(numbers[1] > 9, "{} enums are few", numbers[1]);
 }
 
+/// The forms of D35 and the enums of D43 were rows of tables once; as points they are as many, and no two are of one thing.
+#[test]
+fn each_form_and_each_enum_has_one_row() {
+    let text = text_of(&top().join("docs/DECISIONS.md")).unwrap();
+    let is_one = |point: &&points::Point| {
+        ["form", "case by case"]
+            .iter()
+            .any(|label| point.lines.contains_key(*label))
+    };
+    let points = points::points_of(&text);
+    let mut seen = BTreeSet::new();
+    for point in points.iter().filter(is_one) {
+        let first = point.about.as_str();
+        assert!(seen.insert(first), "two points begin with {first}");
+    }
+    assert!(seen.len() > 18, "{} points are few", seen.len());
+}
+
 #[test]
 fn every_enum_is_said_to_be_an_answer_or_none() {
     let answers = answers();

@@ -500,7 +500,7 @@ fn no_crate_declares_an_axiom() {
     assert!(assuming.is_empty(), "{assuming:?}");
 }
 
-/// One axiom for each function of the C library that a program calls.
+/// One axiom for each function of the C library that a program calls; std calls it where the program reads or prints.
 #[test]
 fn the_axioms_are_those_of_the_functions_called() {
     for row in rows_below(ASSUMED) {
