@@ -1,6 +1,6 @@
 // SPDX-License-Identifier: Apache-2.0
 // A reader over a lent file. The work is in a covered function on the slice and the place; the thin functions over the
-// reader take it apart or put it together and call that one, and are proved by hand.
+// reader take it apart or put it together and call that one.
 #![tactic(auto)]
 
 ghost use Rattle.std.specs.Prelude.{◌≡◌};
