@@ -77,7 +77,7 @@ const BEFORE: [&str; 62] = [
 /// Files in which a name before may stand: the archive, what is made, and this list.
 const APART: [&str; 3] = ["docs/archive", "dist", "compare/tests/names.rs"];
 
-/// The words that name a crate, by what stands around them: `crates/NAME`, `NAME/specs`, `Rattle·NAME`, `NAME::` in code.
+/// The words that name a crate, by what stands around them: `crates/NAME`, `NAME/specs`, `Rattle.NAME`, `NAME::` in code.
 fn crates_named(file: &Path, text: &str) -> Vec<String> {
     let is_word = |letter: char| letter.is_alphanumeric() || letter == '_';
     let is_code = ["rt", "edit", "twin"].contains(&prose::ending_of(file));
@@ -88,14 +88,14 @@ fn crates_named(file: &Path, text: &str) -> Vec<String> {
             .find(|letter| !is_word(letter))
             .map_or(text.len(), |at| start + at);
         let (before, after) = (&text[..start], &text[end..]);
-        let in_folder = ["crates/", "edits/", "Rattle·"]
+        let in_folder = ["crates/", "edits/", "Rattle."]
             .iter()
             .any(|folder| before.ends_with(folder));
         let has_folder = ["/specs/", "/src/", "/proofs/", "/must-fail/"]
             .iter()
             .any(|folder| after.starts_with(folder));
         let is_path = has_folder && !before.ends_with(['/', '.', '-']);
-        let is_used = is_code && after.starts_with("::") && !before.ends_with([':', '.', '·']);
+        let is_used = is_code && after.starts_with("::") && !before.ends_with([':', '.']);
         if in_folder || is_path || is_used {
             found.push(text[start..end].to_string());
         }
@@ -138,7 +138,7 @@ fn a_name_as_before_is_noticed() {
         ),
         (
             "crates/a/src/lib.rt",
-            "ghost use Rattle·image.specs.A;\nuse frame::bytes;",
+            "ghost use Rattle.image.specs.A;\nuse frame::bytes;",
             vec!["image", "frame"],
         ),
         (
