@@ -8,6 +8,7 @@ PAGE is fm3130.html, COMMAND the program fm3130, to compare files with, and FOLD
 docs/WEB.md are there: FOLDER/page.png and others. Nothing may be said in the browser's console.
 """
 
+import base64
 import re
 import sys
 import unittest
@@ -56,6 +57,12 @@ class PageTest(Browsing):
             self.assertEqual(self.lines(), printed, path.name)
 
     def test_a_refused_byte_is_seen(self):
+        self.choose("write-protect.bus")
+        self.run_script()
+        self.assertTrue(self.seek("happened", ".rows > div:has(.refused)", "protected, not stored", "NACK"))
+        self.assertTrue(self.seek("wires", "text", "NACK"))
+
+    def test_a_refused_byte_is_seen_at_once(self):
         self.write("[ D0 0E 08 ] [ A0 07 FF 11 ]")
         self.run_script()
         refused = self.browser.find_elements(By.CSS_SELECTOR, "#happened div:has(.refused)")
@@ -181,6 +188,11 @@ class PageTest(Browsing):
         self.click("tick")
         self.assertEqual(lit(), [])
 
+    def test_a_capture_is_judged(self):
+        (FOLDER / "capture.bin").write_bytes(bytes(48))
+        self.at("judge").send_keys(str(FOLDER / "capture.bin"))
+        self.wait(lambda: self.text("verdict").startswith("capture.bin: entry 1 is faulty"))
+
     def test_the_keyboard_is_enough(self):
         self.write("[ A0 ] t*2")
         self.press(Keys.ESCAPE)
@@ -226,6 +238,19 @@ class PageTest(Browsing):
         self.shape(1360, 1200, "dark")
         self.assertTrue(all(brightness(name) < 200 for name in places))
         self.run_script()
+
+    def test_a_picture_is_taken(self):
+        self.write("# A protected byte is refused: 0000h to 07FFh.\n[ D0 0E 08 ]\n[ A0 07 FF 11 ]\n\n"
+                   "# A lamp is lit by a whole read.\n[ A0 10 00 01 ]\n[ A0 10 00 [ A1 r ]\n")
+        self.run_script()
+        self.browser.execute_script("document.activeElement.blur()")
+        self.shape(1200, 800)
+        height = self.browser.execute_script("return document.documentElement.scrollHeight")
+        self.shape(1200, height)
+        page = {"x": 0, "y": 0, "width": 1200, "height": height, "scale": 0.75}
+        shot = self.browser.execute_cdp_cmd("Page.captureScreenshot", {"format": "png", "clip": page})
+        (FOLDER / "whole-page.png").write_bytes(base64.b64decode(shot["data"]))
+        self.assertGreater((FOLDER / "whole-page.png").stat().st_size, 20_000)
 
 
 def load_tests(loader, tests, _):

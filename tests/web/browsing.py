@@ -34,6 +34,20 @@ done([...found].sort(([one], [other]) => one - other).map(([, text]) => text));
 })();
 """
 
+# Scrolls a list from its begin on until it shows what is looked for, or to its end.
+SEEK = """
+const [list, chosen, words, done] = arguments;
+(async () => {
+const next = () => new Promise((resolve) => setTimeout(resolve, 30));
+const isShown = () => [...list.querySelectorAll(chosen)].some((one) => words.every((word) => one.textContent.includes(word)));
+for (list.scrollTop = 0; ; list.scrollTop += list.clientHeight) {
+  await next();
+  if (isShown() || list.scrollTop + list.clientHeight >= list.scrollHeight - 1) break;
+}
+done(isShown());
+})();
+"""
+
 
 def begin_browser():
     """A browser that knows no other machine, and saves files in FOLDER."""
@@ -124,6 +138,10 @@ class Browsing(unittest.TestCase):
     def lines(self, name="happened"):
         """All lines of a list, of which only those are there that are seen: it is scrolled from its begin to its end."""
         return self.browser.execute_async_script(SCROLL, self.at(name))
+
+    def seek(self, name, chosen, *words):
+        """Whether a list has such an element with these words; it is scrolled to it."""
+        return self.browser.execute_async_script(SEEK, self.at(name), chosen, list(words))
 
     def last_line(self):
         """The last line of what happened, which is in view."""
