@@ -52,7 +52,8 @@ rule is a twin, a device wrong in definition and code alike, which the law must 
 
 What `f` ensures is the contract of the function `f`; law `F.l` is the law `l` in the file F of the crate's proofs. Where `a` is
 not `b`, these are two terms that had to be one, shortened; one that only the prover can read is left out. rt tells the first 160 letters
-of what failed, so of a long message the terms are missing.
+of what failed, so of a long message the terms are missing. A point stays as it was last told: those of `edits/` that were not tried again
+are as an older kit told them.
 
 "#;
 
@@ -342,7 +343,7 @@ fn fact_of(said: &str) -> (String, bool) {
 const SIDES: [&str; 3] = [
     "computed as far as they go, the two ",
     "as printed, the two ",
-    "give a proof of that as the last argument, `rw L t`",
+    "give a proof of that as the last argument, `",
 ];
 
 /// Words of the prover's without its marks.

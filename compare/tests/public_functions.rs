@@ -510,7 +510,11 @@ fn the_axioms_are_those_of_the_functions_called() {
         for owner in names_in(&[row], 1) {
             let program = text_of(&top().join("crates").join(&owner).join("src/main.rt"));
             for (handle, function) in [("impl Read", "read"), ("impl Print", "write")] {
-                assert_eq!(program.contains(handle), called.contains(function), "{owner}");
+                assert_eq!(
+                    program.contains(handle),
+                    called.contains(function),
+                    "{owner}"
+                );
             }
         }
     }
