@@ -250,7 +250,7 @@ test_example() {
 # Bytes of a firmware's parts: the static libraries that it calls, pins.c and levels.c.
 say_sizes() {
     printf '%-12s %-34s %8s %8s\n' target part text data
-    awk '$2 ~ /^(c_run_c|c_pins_c|c_step|c_line_c)$/ { printf "%-12s %-34s %8d %8d\n", $1, "crate " $2, $3, $4 }' "$built/sizes.txt"
+    awk '$2 ~ /^(c_run_c|c_pins_c|c_step_c|c_line_c)$/ { printf "%-12s %-34s %8d %8d\n", $1, "crate " $2, $3, $4 }' "$built/sizes.txt"
     for target in $controller_targets; do
         for part in pins levels; do
             # shellcheck disable=SC2046,SC2086 # one word an option
