@@ -365,7 +365,8 @@ fn what_a_thin_static_library_exports_is_the_librarys_by_the_same_clauses() {
         let (exported, own) = (heads_of(&code, &name), heads_of(&code, &library));
         assert!(!own.is_empty(), "{library} exports nothing");
         assert_eq!(exported, own, "{name}");
-        let text = &code.iter().find(|each| each.owner == name).unwrap().text;
+        let texts = code.iter().filter(|each| each.owner == name);
+        let text: String = texts.map(|each| each.text.as_str()).collect();
         for function in own.keys() {
             let calls = text.matches(&format!("::{function}(")).count();
             assert_eq!(
