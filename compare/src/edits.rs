@@ -476,6 +476,11 @@ fn settled(term: &str) -> String {
 /// The beginning of a message.
 fn short(said: &str) -> String {
     let text = plain(said);
+    // the other of two marks may be cut off
+    let text = match text.matches('`').count() % 2 {
+        0 => text,
+        _ => text.replace('`', ""),
+    };
     if text.chars().count() <= 2 * LONGEST {
         return text;
     }

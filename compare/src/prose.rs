@@ -10,8 +10,21 @@ pub struct Paragraph {
     pub text: String,
 }
 
+/// Whether a page says what was, beside what is: that of the port to today's kit.
+pub fn is_of_the_port(file: &Path) -> bool {
+    ["docs/PORT.md", "PORTING-LEFT.md"]
+        .iter()
+        .any(|page| file == Path::new(page))
+}
+
 /// What is made, or is git's, and is no part of the tree.
-pub const NOT_OF_THE_TREE: [&str; 3] = ["build", "target", ".git"];
+pub const NOT_OF_THE_TREE: [&str; 2] = ["build", ".git"];
+
+/// Whether it is a crate's folder of what rt makes.
+fn is_made_by_rt(path: &Path) -> bool {
+    let crates = path.parent().and_then(Path::parent);
+    path.ends_with("out") && crates.is_some_and(|folder| folder.ends_with("crates"))
+}
 
 /// The files and folders in a folder, in the order of their names.
 pub fn entries_of(folder: &Path) -> Vec<PathBuf> {
@@ -34,7 +47,9 @@ pub fn files_of(top: &Path) -> Vec<PathBuf> {
 }
 
 fn files_below(path: &Path) -> Vec<PathBuf> {
-    if path.is_dir() {
+    if is_made_by_rt(path) {
+        vec![]
+    } else if path.is_dir() {
         let entries = entries_of(path);
         entries
             .iter()

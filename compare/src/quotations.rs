@@ -35,7 +35,7 @@ pub struct Papers(Vec<String>);
 /// program.
 fn is_held(file: &Path) -> bool {
     match prose::ending_of(file) {
-        "md" => true,
+        "md" => !prose::is_of_the_port(file),
         "h" => file.starts_with("include"),
         "antt" | "rt" => file.starts_with("crates"),
         "rs" => file.starts_with("second"),

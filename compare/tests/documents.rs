@@ -183,12 +183,18 @@ fn has_name(file: &str, name: &str) -> bool {
     }
 }
 
-/// All files but the notes of the landings and the archive, which name what there was on their day.
+/// All files but the notes of the landings, the archive and the page of the port, which name what there was on their day.
 fn read_files() -> Vec<PathBuf> {
     let files = prose::files_of(&top());
-    let is_read =
-        |file: &PathBuf| !file.ends_with("LANDINGS.md") && !file.starts_with("docs/archive");
-    files.into_iter().filter(is_read).collect()
+    let is_of_its_day = |file: &PathBuf| {
+        file.ends_with("LANDINGS.md")
+            || file.starts_with("docs/archive")
+            || prose::is_of_the_port(file)
+    };
+    files
+        .into_iter()
+        .filter(|file| !is_of_its_day(file))
+        .collect()
 }
 
 #[test]
@@ -412,7 +418,8 @@ fn long_rows(page: &str) -> Vec<(usize, usize)> {
 fn no_row_of_a_table_is_too_long() {
     let mut pages = 0;
     for file in prose::files_of(&top()) {
-        if prose::ending_of(&file) != "md" || file.starts_with("docs/archive") {
+        let is_apart = file.starts_with("docs/archive") || prose::is_of_the_port(&file);
+        if prose::ending_of(&file) != "md" || is_apart {
             continue;
         }
         let rows = long_rows(&text_of(&top().join(&file)).unwrap());
