@@ -267,11 +267,15 @@ fn place_in_function(function: &str, name: &str) -> String {
     }
 }
 
-/// The function of a crate's file that a line is in or begins, or the file's name where there is none. An edit keeps the lines.
+/// The function of a crate's file that a line is in or begins, also by an attribute. An edit keeps the lines.
 fn function_at(edit: &Edit, file: &str, line: usize) -> String {
     let path = top().join("crates").join(&edit.owner).join(file);
     let text = fs::read_to_string(path).unwrap_or_default();
-    let lines: Vec<&str> = text.lines().take(line).collect();
+    let from = text.lines().skip(line.saturating_sub(1));
+    let attributes = from
+        .take_while(|line| line.trim_start().starts_with("#["))
+        .count();
+    let lines: Vec<&str> = text.lines().take(line + attributes).collect();
     let name = |line: &&str| {
         Some(
             line.split_once("fn ")?
@@ -288,7 +292,7 @@ fn function_at(edit: &Edit, file: &str, line: usize) -> String {
     named
         .filter_map(name)
         .next()
-        .unwrap_or_else(|| file.to_string())
+        .unwrap_or_else(|| "a function".to_string())
 }
 
 /// The fact that fails, in a few words, and whether it is one. The end of a long message is cut off.
@@ -583,7 +587,7 @@ mod tests {
     fn a_function_without_a_proof_is_told() {
         let line = ": note: src/gone.rt:9:1: it is not proved that what the function ensures holds when it returns (`returns`); the f";
         let refused = refusal(&edit(), line).unwrap();
-        assert_eq!(refused.place, "what `src/gone.rt` ensures");
+        assert_eq!(refused.place, "what `a function` ensures");
         assert_eq!(
             refused.fact,
             "no proof is found that what the function ensures"
