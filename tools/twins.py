@@ -73,13 +73,50 @@ class Twin:
             return f"{unproved[0]} refused it, before {self.law}"
         if re.search(r"/(Proof|Answers|Invariants)\.antt:\d+:\d+: error|^fn \S+: (not proved|no proof)|: it is not proved that ", said, re.M):
             return f"its code does not meet its definition in {self.law}"
-        # a law whose own lemma is refused is not checked, and named
-        unchecked = re.findall(r"error: .*rejected, (?:was|were) not checked: (.+)$", said, re.M)
-        refused = {*re.findall(r"error: `([\w-]+)`", said), *re.findall(r"[\w-]+", " ".join(unchecked))}
+        # a law that rests on a refused lemma is not checked: the prover says so, but of many such it names the first alone
+        unchecked = re.findall(r"error: .*(?:rejected|not admitted), (?:was|were) not checked: (.+)$", said, re.M)
+        named = re.sub(r"\(via |\band \d+ more$", "", "\n".join(unchecked), flags=re.M)
+        refused = {*re.findall(r"error: `([\w'-]+)`", said), *re.findall(r"[\w'-]+", named)}
+        if named != "\n".join(unchecked):
+            first = set(re.findall(r"/proofs/([\w/]+)\.antt:\d+:\d+: error: `([\w'-]+)`", said))
+            refused |= {name for _, name in resting_on(first, os.path.join(TOP, "crates", self.law, "proofs"))}
         spared = [law for law in self.laws if law not in refused]
         if spared:
             return f"{self.law} refused it, but not by {', '.join(spared)}"
         return None
+
+
+WORD = r"(?<![\w.'-])[^\W\d][\w'-]*"
+
+
+def lemmas_of(folder):
+    """The lemmas of a crate's files, each by its file and name, with those that its text cites."""
+    texts = {}
+    for file in sorted(os.listdir(folder)):
+        if file.endswith(".antt"):
+            lines = open(os.path.join(folder, file), encoding="utf-8").read().splitlines()
+            texts[file[:-5]] = "\n".join(re.sub(r"(^|\s)--(\s.*|$)", "", line) for line in lines)
+    head = r"^ *(?:pub |abbrev |unfoldable )*(?=[^\W\d][\w'-]*(?: \{[^}]*\})? : )"
+    parts = {file: re.split(head, text, flags=re.M)[1:] for file, text in texts.items()}
+    lemmas = {}
+    for file, text in texts.items():
+        places = {name: (other, name) for other, names in re.findall(r"^use Rattle\.\w+\.proofs\.(\w+)\.\{([^}]*)\}", text, re.M)
+                  for name in re.findall(WORD, names)}
+        places.update({name: (file, name) for name in (re.match(WORD, part).group() for part in parts[file])})
+        for part in parts[file]:
+            cited = lemmas.setdefault((file, re.match(WORD, part).group()), set())
+            cited |= {places[word] for word in re.findall(WORD, part) if word in places}
+    return lemmas
+
+
+def resting_on(refused, folder):
+    """The refused lemmas, each by its file and name, and those of the folder's files that rest on one of them."""
+    lemmas = lemmas_of(folder)
+    while True:
+        more = {lemma for lemma, cited in lemmas.items() if lemma not in refused and cited & refused}
+        if not more:
+            return refused
+        refused = refused | more
 
 
 def lines_of_crates():
