@@ -24,7 +24,6 @@ trap 'exit 1' HUP INT TERM
 tar -cf - --exclude='crates/*/out' crates crates.txt | tar -xf - -C "$work"
 for folder in edits/*/; do
     crate=$(basename "$folder")
-    [ -d "crates/$crate" ] || continue # PORTING-LEFT.md names it
     mkdir -p "$work/crates/$crate/must-fail"
     cp -p "$folder"*.edit "$work/crates/$crate/must-fail/"
 done

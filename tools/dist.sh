@@ -10,8 +10,7 @@
 #   SUMS                 the sums of all of these
 #
 # All of it is compiled by the kit's own compiler, which gives the same bytes on every machine. What the machine's own linker would
-# make, the shared library and programs, is linked where it is used. While PORTING-LEFT.md names crates that are not here, nothing of
-# this can be made: dist/ stays as the kit that dist/KIT names made it, and `check` looks at its sums alone.
+# make, the shared library and programs, is linked where it is used.
 set -eu
 
 fail() { printf 'dist: %s\n' "$*" >&2; exit 1; }
@@ -19,12 +18,6 @@ fail() { printf 'dist: %s\n' "$*" >&2; exit 1; }
 check=''
 [ "${1:-}" != check ] || { check=yes; shift; }
 cd "$(dirname "$0")/.."
-if [ -f PORTING-LEFT.md ]; then
-    [ -n "$check" ] || fail "PORTING-LEFT.md names crates that are not here, so dist/ is not made anew"
-    (cd dist && sha256sum --check --quiet SUMS) || fail "dist/ is NOT what dist/SUMS says"
-    echo "dist: dist/ is what dist/SUMS says, as $(cat dist/KIT) made it; PORTING-LEFT.md names crates that are not here"
-    exit 0
-fi
 [ $# -ge 1 ] || fail "usage: dist.sh [check] CRATE..."
 . tools/controller-options.sh
 tools=$(tools/kit.sh)/toolchain/bin

@@ -4,8 +4,8 @@ r"""twins.py [NAME...]: tries the twins of twins/, or those named: devices with 
 twins.py --page: writes docs/TWINS.md anew, from the twins and from how long each took when it was last refused here.
 
 Nothing but a law in other words can refuse a twin, so it passes this test only if every crate below the law is proved with it and
-the law is not: the crate that its head names is the first that fails, by no proof of code, and each law named is among its errors. A
-twin is a text: lines of `#` first, among them
+the law is not: the crate that its head names is the first that fails, by no proof of code, and each law named is refused, or rests
+on a lemma that is. A twin is a text: lines of `#` first, among them
 
     # Refused by: CRATE, `LAW` (proofs/FILE.antt).
     # Prove: CRATE
@@ -14,8 +14,7 @@ a line `# Not tried yet.` where no prover has seen it with the code as it stands
 named; and then places, each `file:`, `old:` and `new:`, an `old` that stands there once; in both \n is the end of a line.
 
 Each is tried by `rt ci` on a copy of the crates to be proved and of those below them, outside the repository and without edits.
-What `rt ci` passed before on this machine is not proved again. What it said is in build/log/twins/NAME.txt. A twin whose crates
-PORTING-LEFT.md names is passed over.
+What `rt ci` passed before on this machine is not proved again. What it said is in build/log/twins/NAME.txt.
 """
 import os
 import re
@@ -100,12 +99,14 @@ def lemmas_of(folder):
     parts = {file: re.split(head, text, flags=re.M)[1:] for file, text in texts.items()}
     lemmas = {}
     for file, text in texts.items():
-        places = {name: (other, name) for other, names in re.findall(r"^use Rattle\.\w+\.proofs\.(\w+)\.\{([^}]*)\}", text, re.M)
-                  for name in re.findall(WORD, names)}
-        places.update({name: (file, name) for name in (re.match(WORD, part).group() for part in parts[file])})
-        for part in parts[file]:
-            cited = lemmas.setdefault((file, re.match(WORD, part).group()), set())
-            cited |= {places[word] for word in re.findall(WORD, part) if word in places}
+        places = {}
+        for other, names in re.findall(r"^use Rattle\.\w+\.proofs\.(\w+)\.\{([^}]*)\}", text, re.M):
+            places.update({name: (other, name) for name in re.findall(WORD, names)})
+        own = [(re.match(WORD, part).group(), part) for part in parts[file]]
+        places.update({name: (file, name) for name, _ in own})
+        for name, part in own:
+            cited = {places[word] for word in re.findall(WORD, part) if word in places}
+            lemmas[file, name] = lemmas.get((file, name), set()) | cited
     return lemmas
 
 
@@ -191,11 +192,6 @@ def main(names):
         return write_page(twins)
     untried = [] if names else [twin.name for twin in twins if not twin.is_tried]
     names = names or [twin.name for twin in twins if twin.is_tried]
-    left = []
-    if os.path.exists(os.path.join(TOP, "PORTING-LEFT.md")):
-        here = lines_of_crates()
-        left = [twin.name for twin in twins if twin.name in names and not {*twin.crates, *twin.changed()} <= here.keys()]
-        names = [name for name in names if name not in left]
     failed = 0
     os.makedirs(os.path.dirname(log_of("")), exist_ok=True)
     for number, name in enumerate(names, 1):
@@ -210,8 +206,6 @@ def main(names):
             out.write(f"twin: {verdict}\n")
     if untried:
         print(f"twins: passed over, not tried yet: {', '.join(untried)}")
-    if left:
-        print(f"twins: passed over, as PORTING-LEFT.md names their crates: {', '.join(left)}")
     print(f"twins: {len(names) - failed} passed, {failed} failed")
     return 1 if failed else 0
 

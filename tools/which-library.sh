@@ -5,8 +5,7 @@
 #
 # Where `make lib` has proved the crates as they are now, it is that archive: build/native, or build/official for x86-64. Else it
 # is the one in dist/, which needs no kit, if the crates are those it was compiled from and its sum is right. Where they are
-# others, there is none, and the status is 3: `make lib` makes one. While PORTING-LEFT.md names crates that are not here, no archive
-# of the crates has all entries, and it is the one in dist/, which the kit that dist/KIT names proved and compiled.
+# others, there is none, and the status is 3: `make lib` makes one.
 set -eu
 
 fail() { printf 'library: %s\n' "$*" >&2; exit 1; }
@@ -30,13 +29,6 @@ is_as_stored() {
 }
 
 stored=dist/$machine/libfm3130.a
-if [ -f PORTING-LEFT.md ]; then
-    is_as_stored || fail "$stored is not what dist/SUMS says"
-    echo "library: $stored, as $(cat dist/KIT) proved it: PORTING-LEFT.md names crates that are not here" >&2
-    echo "$stored"
-    exit 0
-fi
-
 proved=''
 [ "$machine" != "$here" ] || proved=build/native
 [ "$machine" != x86_64 ] || proved=build/official

@@ -12,9 +12,7 @@ pub struct Paragraph {
 
 /// Whether a page says what was, beside what is: that of the port to today's kit.
 pub fn is_of_the_port(file: &Path) -> bool {
-    ["docs/PORT.md", "PORTING-LEFT.md"]
-        .iter()
-        .any(|page| file == Path::new(page))
+    file == Path::new("docs/PORT.md")
 }
 
 /// What is made, or is git's, and is no part of the tree.

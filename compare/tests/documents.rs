@@ -23,9 +23,6 @@ const FILES: [&str; 10] = ["antt", "bus", "c", "h", "md", "mjs", "py", "rs", "rt
 /// Files that the guide has its reader write.
 const OF_THE_READER: [&str; 2] = ["first.c", "lamp.c"];
 
-/// A page that stands only while crates are left out of a port.
-const FOR_A_TIME: &str = "PORTING-LEFT.md";
-
 /// Files that are the C compiler's.
 const OF_C: [&str; 4] = ["stddef.h", "stdint.h", "stdio.h", "stdlib.h"];
 
@@ -93,7 +90,7 @@ fn is_passed_over(name: &str) -> bool {
         let is_capitals = part.chars().all(|letter| letter.is_ascii_uppercase());
         part.contains('*') || part == ".." || part.starts_with("FILE.") || is_capitals
     };
-    let is_others = OF_C.contains(&name) || OF_THE_READER.contains(&name) || name == FOR_A_TIME;
+    let is_others = OF_C.contains(&name) || OF_THE_READER.contains(&name);
     is_made || is_others || name.split('/').any(is_many)
 }
 
