@@ -17,7 +17,7 @@ pub mod select;
 mod turns;
 
 // Which supplies are present: main power; backup alone; none.
-#[derive(Clone, Copy)]
+#[derive(Clone, Copy, Debug, PartialEq, Eq)]
 pub enum Power {
     On,
     Backup,
@@ -25,7 +25,7 @@ pub enum Power {
 }
 
 // A one-second tick, or an edge on one of the counter inputs.
-#[derive(Clone, Copy)]
+#[derive(Clone, Copy, Debug, PartialEq, Eq)]
 pub enum Beat {
     Second,
     Cnt1,
@@ -33,7 +33,7 @@ pub enum Beat {
 }
 
 // A part without its memory, which the caller lends, and without its companion.
-#[derive(Clone, Copy)]
+#[derive(Clone, Copy, Debug, PartialEq, Eq)]
 pub struct Bus {
     pub power: Power,
     pub phase: Phase,
@@ -41,14 +41,14 @@ pub struct Bus {
 }
 
 // What the companion replies: whether it acknowledges the byte, and the byte that it sends.
-#[derive(Clone, Copy)]
+#[derive(Clone, Copy, Debug, PartialEq, Eq)]
 pub struct Reply {
     pub good: bool,
     pub byte: u8,
 }
 
 // What an event leaves: the next bus, and the line.
-#[derive(Clone, Copy)]
+#[derive(Clone, Copy, Debug, PartialEq, Eq)]
 pub struct Went {
     pub bus: Bus,
     pub line: bool,
