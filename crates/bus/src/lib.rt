@@ -41,13 +41,24 @@ pub struct Bus {
 }
 
 // What the companion replies: whether it acknowledges the byte, and the byte that it sends.
+// Stays (plain): the two answer different questions, of a byte from the master and of one to it, and neither is the other's flag.
 #[derive(Clone, Copy, Debug, PartialEq, Eq)]
 pub struct Reply {
     pub good: bool,
     pub byte: u8,
 }
 
+// What a part hands over with an event: the size of its memory, its select bits, the protection bits, and its companion's reply.
+#[derive(Clone, Copy)]
+pub(crate) struct Part {
+    size: u16,
+    select: u8,
+    guard: u8,
+    reply: Reply,
+}
+
 // What an event leaves: the next bus, and the line.
+// Stays (plain): every event leaves both, whatever the line is.
 #[derive(Clone, Copy, Debug, PartialEq, Eq)]
 pub struct Went {
     pub bus: Bus,
