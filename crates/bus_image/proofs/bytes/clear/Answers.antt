@@ -1,6 +1,5 @@
 -- SPDX-License-Identifier: Apache-2.0
 -- The loop's invariant: the bytes passed are 0, the others as they were. The measure is what is left.
-use Prim.Native.Nat.{◌-◌}
 use mathlib.Core.Path.{refl}
 use native.Mathlib.Omega.{arith}
 use borrow.Author.Rules.{rules}

@@ -1,6 +1,5 @@
 -- SPDX-License-Identifier: Apache-2.0
 -- The loop's invariant: the bytes passed are copied. The measure is what is left.
-use Prim.Native.Nat.{◌-◌}
 use native.Mathlib.Omega.{arith}
 use borrow.Author.Rules.{rules}
 use Rattle.bus_image.proofs.Lists.{copy_more, copy_done}

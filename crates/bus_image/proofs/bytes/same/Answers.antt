@@ -1,6 +1,5 @@
 -- SPDX-License-Identifier: Apache-2.0
 -- The loop's invariant: what was seen of the two, and the rest, decide the whole. The measure is what is left.
-use Prim.Native.Nat.{◌-◌}
 use mathlib.Core.Path.{sym, ◌∙◌}
 use native.Mathlib.Omega.{arith}
 use borrow.Author.Rules.{rules}
