@@ -19,6 +19,7 @@ use bus::{Bus, Power};
 use wire::{Phase, Side};
 
 // Byte 25 of an image.
+// Stays (plain): these two are no `From`, since neither `Power` nor `u8` is a type of this crate; the phase has `Transfer`.
 pub fn power_number(power: Power) -> u8
     ensures { result ≡ power_number power }
 {
@@ -30,6 +31,7 @@ pub fn power_number(power: Power) -> u8
 }
 
 // The supplies of a byte 25.
+#[tactic(auto, unfolding(crate::specs::Layout::power_of))]
 pub fn power_of(number: u8) -> Power
     ensures { result ≡ power_of number }
 {
@@ -40,78 +42,86 @@ pub fn power_of(number: u8) -> Power
     }
 }
 
-// A phase of one byte under way, with no first address byte.
-fn transfer(phase: u8, clocks: u8, byte: u8) -> Transfer
-    ensures { result ≡ record { phase = phase; clocks = clocks; byte = byte; first = 0 } }
-{
-    Transfer {
-        phase: phase,
-        clocks: clocks,
-        byte: byte,
-        first: 0,
-    }
-}
-
 // Bytes 26 to 29 of an image.
-pub fn transfer_of(phase: Phase) -> Transfer
-    ensures { result ≡ transfer_of phase }
-{
-    match phase {
-        Phase::Idle => transfer(IDLE, 0, 0),
-        Phase::Slave { clocks, byte } => transfer(SLAVE, clocks, byte),
-        Phase::AddressHigh { clocks, byte } => transfer(ADDRESS_HIGH, clocks, byte),
-        Phase::AddressLow { high, clocks, byte } => Transfer {
-            phase: ADDRESS_LOW,
-            clocks: clocks,
-            byte: byte,
-            first: high,
-        },
-        Phase::Pointer { clocks, byte } => transfer(POINTER, clocks, byte),
-        Phase::Write { side, clocks, byte } => match side {
-            Side::Memory => transfer(WRITE_MEMORY, clocks, byte),
-            Side::Companion => transfer(WRITE_COMPANION, clocks, byte),
-        },
-        Phase::Read { side, clocks, byte } => match side {
-            Side::Memory => transfer(READ_MEMORY, clocks, byte),
-            Side::Companion => transfer(READ_COMPANION, clocks, byte),
-        },
+impl From<Phase> for Transfer {
+    ghost from_gives = { λ phase transfer. transfer ≡ transfer_of phase };
+
+    fn from(phase: Phase) -> Transfer {
+        let (number, clocks, byte, first) = match phase {
+            Phase::Idle => (IDLE, 0, 0, 0),
+            Phase::Slave { clocks, byte } => (SLAVE, clocks, byte, 0),
+            Phase::AddressHigh { clocks, byte } => (ADDRESS_HIGH, clocks, byte, 0),
+            Phase::AddressLow { high, clocks, byte } => (ADDRESS_LOW, clocks, byte, high),
+            Phase::Pointer { clocks, byte } => (POINTER, clocks, byte, 0),
+            Phase::Write {
+                side: Side::Memory,
+                clocks,
+                byte,
+            } => (WRITE_MEMORY, clocks, byte, 0),
+            Phase::Write {
+                side: Side::Companion,
+                clocks,
+                byte,
+            } => (WRITE_COMPANION, clocks, byte, 0),
+            Phase::Read {
+                side: Side::Memory,
+                clocks,
+                byte,
+            } => (READ_MEMORY, clocks, byte, 0),
+            Phase::Read {
+                side: Side::Companion,
+                clocks,
+                byte,
+            } => (READ_COMPANION, clocks, byte, 0),
+        };
+        Transfer {
+            phase: number,
+            clocks,
+            byte,
+            first,
+        }
     }
 }
 
 // The phase of bytes 26 to 29.
-pub fn phase_of(number: u8, clocks: u8, byte: u8, first: u8) -> Phase
-    ensures { result ≡ phase_of number clocks byte first }
-{
-    match number {
-        SLAVE => Phase::Slave { clocks, byte },
-        ADDRESS_HIGH => Phase::AddressHigh { clocks, byte },
-        ADDRESS_LOW => Phase::AddressLow {
-            high: first,
+impl From<Transfer> for Phase {
+    ghost from_gives = { λ transfer phase. phase ≡ phase_of transfer.phase transfer.clocks transfer.byte transfer.first };
+
+    #[tactic(auto, unfolding(crate::specs::Layout::phase_of))]
+    fn from(transfer: Transfer) -> Phase {
+        let Transfer {
+            phase,
             clocks,
             byte,
-        },
-        POINTER => Phase::Pointer { clocks, byte },
-        WRITE_MEMORY => Phase::Write {
-            side: Side::Memory,
-            clocks,
-            byte,
-        },
-        WRITE_COMPANION => Phase::Write {
-            side: Side::Companion,
-            clocks,
-            byte,
-        },
-        READ_MEMORY => Phase::Read {
-            side: Side::Memory,
-            clocks,
-            byte,
-        },
-        READ_COMPANION => Phase::Read {
-            side: Side::Companion,
-            clocks,
-            byte,
-        },
-        _ => Phase::Idle,
+            first: high,
+        } = transfer;
+        match phase {
+            SLAVE => Phase::Slave { clocks, byte },
+            ADDRESS_HIGH => Phase::AddressHigh { clocks, byte },
+            ADDRESS_LOW => Phase::AddressLow { high, clocks, byte },
+            POINTER => Phase::Pointer { clocks, byte },
+            WRITE_MEMORY => Phase::Write {
+                side: Side::Memory,
+                clocks,
+                byte,
+            },
+            WRITE_COMPANION => Phase::Write {
+                side: Side::Companion,
+                clocks,
+                byte,
+            },
+            READ_MEMORY => Phase::Read {
+                side: Side::Memory,
+                clocks,
+                byte,
+            },
+            READ_COMPANION => Phase::Read {
+                side: Side::Companion,
+                clocks,
+                byte,
+            },
+            _ => Phase::Idle,
+        }
     }
 }
 
@@ -121,7 +131,7 @@ pub fn write_bus(image: &mut [u8], bus: Bus)
     ensures { image.new ≡ sets image.old ADDRESS_HIGH_AT (bus_bytes bus) }
 {
     let [high, low] = bus.address.to_be_bytes();
-    let transfer = transfer_of(bus.phase);
+    let transfer = Transfer::from(bus.phase);
     image[ADDRESS_HIGH_AT] = high;
     image[ADDRESS_LOW_AT] = low;
     image[SUPPLIES_AT] = power_number(bus.power);
@@ -138,12 +148,12 @@ pub fn bus_at(image: &[u8]) -> Bus
 {
     Bus {
         power: power_of(image[SUPPLIES_AT]),
-        phase: phase_of(
-            image[PHASE_AT],
-            image[CLOCKS_AT],
-            image[BYTE_AT],
-            image[FIRST_AT],
-        ),
+        phase: Phase::from(Transfer {
+            phase: image[PHASE_AT],
+            clocks: image[CLOCKS_AT],
+            byte: image[BYTE_AT],
+            first: image[FIRST_AT],
+        }),
         address: pair(image[ADDRESS_HIGH_AT], image[ADDRESS_LOW_AT]),
     }
 }
