@@ -2,6 +2,7 @@
 -- The supplies and the phase as the numbers of an image, and back (docs/IMAGE.md, bytes 25 to 29).
 --   power_number, power_of   the supplies as byte 25, and back
 --   transfer_of, phase_of    the phase as bytes 26 to 29, and back
+--   transfer_at              these bytes, as they lie
 --   bus_bytes, bus_at        a bus as bytes 23 to 29, and back: the memory address, the supplies and the phase
 use Rattle.std.specs.Prelude.{ℕ, ◌+◌, ◌*◌, ◌/◌, ◌%◌, cond, List, [], ◌∷◌, eqb, get_or}
 use Rattle.wire.specs.declared.Side.TheVariants.{Memory, Companion}
@@ -52,6 +53,10 @@ phase_of n k b f =
     (cond (eqb n WRITE_COMPANION) (Write Companion k b)
     (cond (eqb n READ_MEMORY) (Read Memory k b)
     (cond (eqb n READ_COMPANION) (Read Companion k b) Idle)))))))
+
+-- Auxiliary: bytes 26 to 29 as they lie.
+abbrev pub transfer_at : List ℕ → Transfer
+transfer_at i = transfer (get_or i PHASE_AT 0) (get_or i CLOCKS_AT 0) (get_or i BYTE_AT 0) (get_or i FIRST_AT 0)
 
 -- Bytes 23 to 29.
 abbrev pub bus_bytes : Bus → List ℕ

@@ -3,7 +3,7 @@
 // case; an image that has one is not accepted. And a whole bus, at its places.
 ghost use Rattle.std.specs.Prelude.{◌≡◌, length};
 ghost use Rattle.std.proofs.lemmas.List.Edits.{sets};
-ghost use Rattle.bus_image.specs.Layout.{power_number, power_of, transfer_of, phase_of, bus_bytes, bus_at};
+ghost use Rattle.bus_image.specs.Layout.{power_number, power_of, transfer_of, phase_of, transfer_at, bus_bytes, bus_at};
 ghost use Rattle.bus_image.specs.Places.{ADDRESS_HIGH_AT};
 
 use crate::Transfer;
@@ -125,6 +125,19 @@ impl From<Transfer> for Phase {
     }
 }
 
+// Bytes 26 to 29 of an image, as they lie.
+pub fn transfer_at(image: &[u8]) -> Transfer
+    requires { length image.now ≡ 64 }
+    ensures { result ≡ transfer_at image.now }
+{
+    Transfer {
+        phase: image[PHASE_AT],
+        clocks: image[CLOCKS_AT],
+        byte: image[BYTE_AT],
+        first: image[FIRST_AT],
+    }
+}
+
 // Writes a bus over bytes 23 to 29 of an image.
 pub fn write_bus(image: &mut [u8], bus: Bus)
     requires { length image.old ≡ 64 }
@@ -148,12 +161,7 @@ pub fn bus_at(image: &[u8]) -> Bus
 {
     Bus {
         power: power_of(image[SUPPLIES_AT]),
-        phase: Phase::from(Transfer {
-            phase: image[PHASE_AT],
-            clocks: image[CLOCKS_AT],
-            byte: image[BYTE_AT],
-            first: image[FIRST_AT],
-        }),
+        phase: Phase::from(transfer_at(image)),
         address: pair(image[ADDRESS_HIGH_AT], image[ADDRESS_LOW_AT]),
     }
 }
