@@ -5,7 +5,7 @@ use mathlib.Core.Bool.{true}
 use Rattle.fm3130_image.specs.Code.Accepting.{is_image}
 use Rattle.fm3130_image.proofs.Accepts.{image_read, image_not_read}
 use Rattle.c_step.proofs.Ways.{single_wrong_memory, single_wrong_image, single_unknown_event, single_short, single_answered, front_set}
-use Rattle.c_step.proofs.fm3130_step.Goals as goal
+use Rattle.c_step.proofs.step.Goals as goal
 
 pub returns-then-memory-ne-MEMORY : goal.returns-then-memory-ne-MEMORY
 returns-then-memory-ne-MEMORY c = sym (single_wrong_memory _ _ _ _ c.if-memory-ne-MEMORY.true)
@@ -17,30 +17,24 @@ returns-then-not-is_image c =
 
 pub returns-then-event-gt7 : goal.returns-then-event-gt7
 returns-then-event-gt7 c =
-    let d = c in
-    sym (single_unknown_event _ _ _ _ ((d.if-memory-ne-MEMORY.false)) _ (image_read _ ((sym d.is_image.ensures ∙ d.if-not-is_image.false))) c.if-event-gt7.true)
+    let i = image_read _ (sym c.is_image.ensures ∙ c.if-not-is_image.false) in
+    sym (single_unknown_event _ _ _ _ c.if-memory-ne-MEMORY.false _ i c.if-event-gt7.true)
 
 pub returns-then-told-lt-TOLD : goal.returns-then-told-lt-TOLD
 returns-then-told-lt-TOLD c =
-    let d = c in
-    sym (single_short _ _ _ _ ((d.if-memory-ne-MEMORY.false)) _ (image_read _ ((sym d.is_image.ensures ∙ d.if-not-is_image.false))) c.if-event-gt7.false c.if-told-lt-TOLD.true)
+    let i = image_read _ (sym c.is_image.ensures ∙ c.if-not-is_image.false) in
+    sym (single_short _ _ _ _ c.if-memory-ne-MEMORY.false _ i c.if-event-gt7.false c.if-told-lt-TOLD.true)
 
 pub tell-done-requires : goal.tell-done-requires
 tell-done-requires c =
-    let d = c in
-    record { accepted = record { image = (sym d.is_image.ensures ∙ d.if-not-is_image.false); memory = (d.if-memory-ne-MEMORY.false) }; event_bound = c.if-event-gt7.false }
+    record {
+      accepted = record { image = sym c.is_image.ensures ∙ c.if-not-is_image.false; memory = c.if-memory-ne-MEMORY.false };
+      event_bound = c.if-event-gt7.false;
+    }
 
 pub returns : goal.returns
 returns c =
-    let r = c in
-    let t = r in
-    let d = t in
-    let a = r.tell-done.ensures in
-    rw (
-      c.rolled_number.ensures,
-      front_set d.args.told.now _ _ t.if-told-lt-TOLD.false,
-      a.1,
-      a.0.answer,
-      a.0.image,
-      a.0.memory,
-    ) (sym (single_answered _ _ _ _ ((d.if-memory-ne-MEMORY.false)) _ (image_read _ ((sym d.is_image.ensures ∙ d.if-not-is_image.false))) t.if-event-gt7.false t.if-told-lt-TOLD.false))
+    let a = c.tell-done.ensures in
+    let i = image_read _ (sym c.is_image.ensures ∙ c.if-not-is_image.false) in
+    rw (c.number.ensures, front_set c.args.told.now _ _ c.if-told-lt-TOLD.false, a.1, a.0.answer, a.0.image, a.0.memory)
+    (sym (single_answered _ _ _ _ c.if-memory-ne-MEMORY.false _ i c.if-event-gt7.false c.if-told-lt-TOLD.false))
