@@ -25,13 +25,6 @@ returns-then-told-lt-TOLD c =
     let i = image_read _ (sym c.is_image.ensures ∙ c.if-not-is_image.false) in
     sym (single_short _ _ _ _ c.if-memory-ne-MEMORY.false _ i c.if-event-gt7.false c.if-told-lt-TOLD.true)
 
-pub tell-done-requires : goal.tell-done-requires
-tell-done-requires c =
-    record {
-      accepted = record { image = sym c.is_image.ensures ∙ c.if-not-is_image.false; memory = c.if-memory-ne-MEMORY.false };
-      event_bound = c.if-event-gt7.false;
-    }
-
 pub returns : goal.returns
 returns c =
     let a = c.tell-done.ensures in
