@@ -19,9 +19,10 @@ use bus_image::phases::{
 use bus_image::places::{
     ADDRESS_HIGH_AT, BYTE_AT, CLOCKS_AT, COMPANION_ADDRESS_AT, FIRST_AT, PHASE_AT, SUPPLIES_AT,
 };
+use fm3130::State;
 use fm3130_image::places::END_AT;
 use fm3130_image::read::state_at;
-use fm3130_image::{Decoded, LENGTH, MEMORY};
+use fm3130_image::{LENGTH, MEMORY};
 use fm3130_registers::map::LAST;
 use numbers::Refusal;
 use wire::slave::{answers, slave_names};
@@ -184,11 +185,11 @@ pub fn admit(image: &[u8], memory: &[u8]) -> Result<(), Refusal>
 }
 
 // The well-formed state that writes an image, if there is one.
-pub fn decode(image: &[u8]) -> Decoded
+pub fn decode(image: &[u8]) -> Option<State>
     ensures { DecodeSettled image.now result }
 {
     if !is_image(image) {
-        return Decoded::Bad;
+        return None;
     }
-    Decoded::Good(state_at(image))
+    Some(state_at(image))
 }
