@@ -6,7 +6,6 @@
 --   told_by, line_of                  the same as one number, refusals too
 --   LineSettled                     the entry's contract
 use Rattle.std.specs.Prelude.{ℕ, ◌+◌, ◌%◌, ◌≡◌, Bool, cond, List, eqb, length, Option, Some, None}
-use Rattle.fm3130_companion.specs.declared.Companion as C
 use Rattle.numbers.specs.Numbers.{wrong_memory}
 use Rattle.fm3130.specs.Chip.{memory_size}
 use Rattle.fm3130.specs.Event.{event_of}
