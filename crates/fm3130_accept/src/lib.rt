@@ -16,8 +16,9 @@ use bus::select::LONE;
 use bus_accept::{bus_within, has_end, word};
 use bus_image::layout::transfer_at;
 use bus_image::places::{ADDRESS_HIGH_AT, COMPANION_ADDRESS_AT, SUPPLIES_AT};
+use fm3130::State;
 use fm3130_image::read::state_at;
-use fm3130_image::{Decoded, LENGTH, MEMORY};
+use fm3130_image::{LENGTH, MEMORY};
 use fm3130_registers::map::LAST;
 use numbers::Refusal;
 
@@ -81,11 +82,11 @@ pub fn admit(image: &[u8], memory: &[u8]) -> Result<(), Refusal>
 }
 
 // The well-formed state that writes an image, if there is one.
-pub fn decode(image: &[u8]) -> Decoded
+pub fn decode(image: &[u8]) -> Option<State>
     ensures { DecodeSettled image.now result }
 {
     if !is_image(image) {
-        return Decoded::Bad;
+        return None;
     }
-    Decoded::Good(state_at(image))
+    Some(state_at(image))
 }
