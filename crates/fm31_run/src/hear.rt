@@ -36,22 +36,20 @@ fn joined(place: u8, before: u8, answer: u8) -> u8
 }
 
 // One event: done as the device alone would do it, if it hears it.
-pub(crate) fn hear(state: State, memory: &mut [u8], seat: Seat, event: u8, before: u8) -> Answered
+pub fn hear(state: State, memory: &mut [u8], seat: Seat, event: u8, before: u8) -> Answered
     requires ready { Ready seat.size state memory.old }
     requires place_bound { seat.place ≤ 3 }
     ensures { HeardAs seat state memory.old event before result memory.new }
 {
     if hears(seat.place, event) {
-        let own = own_byte(event);
-        let answered = state.advance(memory, seat.size, seat.select, own);
-        let next = answered.state;
+        let answered = state.advance(memory, seat.size, seat.select, own_byte(event));
         return Answered {
-            state: next,
+            state: answered.state,
             answer: joined(seat.place, before, answered.answer),
         };
     }
     Answered {
-        state: state,
+        state,
         answer: joined(seat.place, before, 1),
     }
 }
