@@ -4,11 +4,13 @@
 // state that could have written it.
 #![tactic(auto)]
 
-ghost use Rattle.std.specs.Prelude.{◌≡◌, ◌≤◌, length, drop};
+ghost use Rattle.std.specs.Prelude.{◌≡◌, ◌≢◌, ◌≤◌, ◌↔◌, true, false, length, drop, OnOk, IsErrOf};
 ghost use Rattle.bus_image.specs.Bytes.{same_bytes};
 ghost use Rattle.fm3130_image.specs.Image.{image_size};
 ghost use Rattle.fm3130_image.specs.Code.Accepting.{the_end, is_image};
 ghost use Rattle.fm3130_image.specs.Reading.{DecodeSettled};
+ghost use Rattle.fm3130.specs.Chip.{memory_size};
+ghost use Rattle.fm3130_accept.specs.Admitted.{admitted};
 ghost use Rattle.fm3130_accept.specs.Code.Tests.{word_at, places_within, incoming_within, transfer_within, bus_tested};
 
 use bus_image::phases::{
@@ -19,8 +21,9 @@ use bus_image::places::{
 };
 use fm3130_image::places::END_AT;
 use fm3130_image::read::state_at;
-use fm3130_image::{Decoded, LENGTH};
+use fm3130_image::{Decoded, LENGTH, MEMORY};
 use fm3130_registers::map::LAST;
+use numbers::Refusal;
 use wire::slave::{answers, slave_names};
 
 // The second of the bytes that are the same in every image.
@@ -162,6 +165,22 @@ pub fn is_image(image: &[u8]) -> bool
         image[BYTE_AT],
         image[FIRST_AT],
     )
+}
+
+// What every call that is lent an image and the memory tests first: the memory's length, then the image.
+pub fn admit(image: &[u8], memory: &[u8]) -> Result<(), Refusal>
+    ensures admitted { result ≡ admitted image.now memory.now }
+    ensures ok { OnOk result ((length memory.now ≡ memory_size) × (is_image image.now ≡ true)) }
+    ensures wrong_memory { IsErrOf result Refusal.WrongMemory ↔ (length memory.now ≢ memory_size) }
+    ensures wrong_state { IsErrOf result Refusal.WrongState ↔ ((length memory.now ≡ memory_size) × (is_image image.now ≡ false)) }
+{
+    if memory.len() != MEMORY {
+        return Err(Refusal::WrongMemory);
+    }
+    if !is_image(image) {
+        return Err(Refusal::WrongState);
+    }
+    Ok(())
 }
 
 // The well-formed state that writes an image, if there is one.
