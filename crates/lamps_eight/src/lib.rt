@@ -33,6 +33,7 @@ pub struct Lamp {
 }
 
 // The lamps of the bytes at 1000h to 1007h.
+// Stays (fixed): `KeptBytes` speaks of every record, and eight lamps in an array are in `specs` a list of any length
 #[derive(Clone, Copy)]
 pub struct Lamps {
     pub zero: Lamp,
