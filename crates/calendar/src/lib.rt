@@ -84,7 +84,8 @@ impl Calendar {
     }
 
     // Whether the calendar is a date and a time that exist: by its digits, so that no number is made of them. A byte that
-    // is no month has no last date, so no date is within it.
+    // is no month has no last date, so no date is within it. Each tick asks: the hint spares it the call.
+    #[inline]
     #[tactic(auto, using(crate::proofs::Digits::date_tested), unfolding(crate::specs::Next::is_valid))]
     pub fn is_valid(self) -> bool
         ensures { result ≡ is_valid self }
