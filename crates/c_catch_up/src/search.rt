@@ -16,6 +16,7 @@ use fm3130_companion::Alarm;
 use fm3130_registers::map::MATCH;
 
 // Numbers that follow each other, the last not included: seconds, minutes, hours or days of the century.
+// Stays (plain): it has a method of its own, `narrowed`, which a `Range` cannot be given, and is passed on by copy.
 #[derive(Clone, Copy)]
 pub struct Stretch {
     pub from: u32,

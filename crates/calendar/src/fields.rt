@@ -5,6 +5,7 @@ ghost use Rattle.calendar.specs.Field.{value, bcd, in_field, step_of};
 ghost use Rattle.calendar.specs.Mend.{mended_field, clipped_date};
 
 // A field that took a carry or none: the byte that it then holds, and whether it carries on to the next field.
+// Stays (plain): the byte means something with a carry and without one, so a flag stands beside it.
 #[derive(Clone, Copy)]
 pub struct Carried {
     pub byte: u8,

@@ -55,6 +55,7 @@ impl Rolled {
 }
 
 // A calendar after a tick, whether year 99 gave way to 00, and the highest field that changed.
+// Stays (plain): the calendar means something at a century's end and before it, so a flag stands beside it.
 #[derive(Clone, Copy, Debug, PartialEq, Eq)]
 pub struct Advanced {
     pub calendar: Calendar,
