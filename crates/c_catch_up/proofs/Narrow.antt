@@ -187,3 +187,6 @@ module _ (a b : ℕ) (s : Stretch) (pos : 0 < b) where
 -- the end's unit and one more fit where the end does
 pub unit_below : (x b : ℕ) → 0 < b → (x - 1) / b ≤ x
 unit_below x b h = omega (arith, div-le_self (x - 1) b)
+
+-- what the narrowing of a stretch rests on
+pub ruleset narrowing = (passes_one, narrowed_none, narrowed_any, narrowed_one, unit_below)

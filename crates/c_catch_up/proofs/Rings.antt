@@ -2,12 +2,12 @@
 -- The search tells whether one of the ticks rings the alarm. A day is in one month, so in a month that passes a date is
 -- asked for at one day alone. A property of the larger unit, found in the narrowed stretch, is found in the stretch
 -- itself and the other way round. And the advanced core's fields are the quotients and remainders of its second.
-use Prim.Native.Nat.{ℕ, zero, suc, ◌+◌, ◌*◌, ◌-◌, ◌/◌, ◌%◌, ◌≤◌, ◌<◌}
+use Prim.Native.Nat.{ℕ, zero, suc, min, max, ◌+◌, ◌*◌, ◌-◌, ◌/◌, ◌%◌, ◌≤◌, ◌<◌}
 use mathlib.Core.Path.{◌≡◌, refl, sym, ◌∙◌, ap, subst}
 use mathlib.Core.Bool.{Bool, true, false, ◌&&◌, ◌||◌}
 use native.Mathlib.Omega.{arith}
 use lib.Dec.{T, eqb, ltb, leb}
-use borrow.Author.Tests.{eqb-true, eqb-false, lt-ltb, le-leb, ltb-true, ltb-false, leb-true}
+use borrow.Author.Tests.{eqb-true, eqb-false, lt-ltb, le-ltb, le-leb, ltb-true, ltb-false, leb-true}
 use Rattle.bits.specs.Weight.{has}
 use Rattle.calendar.specs.Next.{is_valid}
 use Rattle.calendar.specs.Instant.{month_start, instant}
@@ -25,7 +25,7 @@ use Rattle.fm3130_companion.specs.declared.Alarm.{Alarm}
 use Rattle.c_catch_up.specs.declared.search.Stretch.{Stretch}
 use Rattle.fm3130_registers.specs.Map.{MATCH}
 use Rattle.fm3130_companion.specs.Tick.{matches}
-use Rattle.c_catch_up.specs.Code.Search.{passes, Asks, Some, Tells, DayRings, Narrowed, Skips, Later}
+use Rattle.c_catch_up.specs.Code.Search.{passes, Asks, Some, Tells, DayRings, Narrowed, Skips}
 use Rattle.c_catch_up.specs.Code.Ticks.{rung_within, TellsRung}
 use Rattle.c_catch_up.proofs.Narrow.{passes_any, passes_one, one_passes}
 
@@ -97,15 +97,13 @@ module _ (a : Alarm) (month from to : ℕ) (known : month < 2400) (least : month
       end = month_start month + n
 
       abbrev found : Bool
-      found = ltb from end && leb end (month_start (month + 1)) && leb end to
+      found = ltb from end && leb end (min (month_start (month + 1)) to)
 
       one_yes : found ≡ true → Some (RingsIn a month) from to
       one_yes p =
-          let s = split (ltb from end && leb end (month_start (month + 1))) (leb end to) p in
-          let t = split (ltb from end) (leb end (month_start (month + 1))) s.0 in
-          let l = ltb-true from end t.0 in
-          let h = leb-true end (month_start (month + 1)) t.1 in
-          let u = leb-true end to s.1 in
+          let s = split (ltb from end) (leb end (min (month_start (month + 1)) to)) p in
+          let l = ltb-true from end s.0 in
+          let h = leb-true end (min (month_start (month + 1)) to) s.1 in
           let i = day_in (end - 1) (omega arith) (omega arith) in
           let e : end - 1 - month_start month + 1 ≡ n = omega arith in
           let w = date_below (end - 1) month i in
@@ -134,11 +132,18 @@ module _ (a : Alarm) (month from to : ℕ) (known : month < 2400) (least : month
           let e = passes_one a.date n (d - month_start month + 1) k (omega arith) one p in
           let f = i.from in
           let t = i.to in
-          both (both (lt-ltb from end (omega (arith, s.from))) (le-leb end (month_start (month + 1)) (omega arith)))
-          (le-leb end to (omega (arith, s.to)))
+          both (lt-ltb from end (omega (arith, s.from)))
+          (le-leb end (min (month_start (month + 1)) to) (omega (arith, s.to)))
 
       pub rings_one : Tells found (Some (RingsIn a month) from to)
       rings_one = record { yes = one_yes; no = λ p s. clash found (one_no s) p }
+
+      -- the same by the first of its two tests
+      pub rings_begun : from < end → Tells (leb end (min (month_start (month + 1)) to)) (Some (RingsIn a month) from to)
+      rings_begun l = rw (lt-ltb from end l) at rings_one
+
+      pub rings_past : end ≤ from → Tells (ltb from end) (Some (RingsIn a month) from to)
+      rings_past l = rw (le-ltb from end l) (rw (le-ltb from end l) at rings_one)
 
 -- the days of the months before, and those of one more month
 pub none_more :
@@ -186,22 +191,21 @@ none_skipped a first day to month later before here s d l h k r = by_month (ltb 
 
 -- none up to the later of two days
 pub none_later :
-    (a : Alarm) (first day to start later : ℕ) → Later day start later
+    (a : Alarm) (first day to start : ℕ)
     → ((d : ℕ) → first ≤ d → d < day → d < to → DayRings a d → ⊥)
     → ((d : ℕ) → first ≤ d → d < start → d < to → DayRings a d → ⊥)
-    → (d : ℕ) → first ≤ d → d < later → d < to → DayRings a d → ⊥
-none_later a first day to start later r before skipped d l h k = by_start (ltb d start) refl
+    → (d : ℕ) → first ≤ d → d < max day start → d < to → DayRings a d → ⊥
+none_later a first day to start before skipped d l h k = by_start (ltb d start) refl
   where
     by_start : (b : Bool) → ltb d start ≡ b → DayRings a d → ⊥
     by_start true e = skipped d l (ltb-true d start e) k
-    by_start false e = before d l (r.one d h (ltb-false d start e)) k
+    by_start false e = before d l (omega (arith, h, ltb-false d start e)) k
 
 -- neither a date nor a month is asked for: the first day rings
-pub tells_first : (a : Alarm) (first to : ℕ) → has a.date MATCH && has a.month MATCH ≡ true → first < to → to ≤ 72000
+pub tells_first : (a : Alarm) (first to : ℕ) → has a.date MATCH ≡ true → has a.month MATCH ≡ true → first < to → to ≤ 72000
     → Tells true (Some (DayRings a) first to)
-tells_first a first to e l h =
+tells_first a first to d n l h =
     let m = month_exists first (omega arith) in
-    let s = split (has a.date MATCH) (has a.month MATCH) e in
     record {
       yes =
           λ p. record {
@@ -212,8 +216,8 @@ tells_first a first to e l h =
                 record {
                   month = m.index;
                   in_month = m.in_month;
-                  date = passes_any a.date (first - month_start m.index + 1) s.0;
-                  name = passes_any a.month (m.index % 12 + 1) s.1;
+                  date = passes_any a.date (first - month_start m.index + 1) d;
+                  name = passes_any a.month (m.index % 12 + 1) n;
                 };
           };
       no = λ p. clash true refl p;

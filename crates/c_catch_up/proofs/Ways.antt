@@ -16,7 +16,7 @@ use Rattle.fm3130.specs.declared.State.{State}
 use Rattle.fm3130_image.specs.Image.{image_of, candidate, decode_of}
 use Rattle.fm3130_image.specs.Code.Accepting.{is_image}
 use Rattle.fm3130_image.specs.Made.{Made}
-use Rattle.fm3130_image.proofs.Accepts.{image_read, image_written}
+use Rattle.fm3130_image.proofs.Accepts.{image_read, image_not_read, image_written, image_long}
 use Rattle.c_catch_up.specs.CatchUp.{caught_up, catch_up_of, CatchUpSettled}
 use Rattle.c_catch_up.specs.Code.CatchUp.{CountedOn}
 use Rattle.c_catch_up.proofs.Caught.{ticks_stopped, ticks_some}
@@ -79,3 +79,15 @@ pub catch_up_unique : (i : List ℕ) (n r r₂ : ℕ) (i' i₂ : List ℕ)
 catch_up_unique i n r r₂ i' i₂ p q =
     let same = p ∙ sym q in
     (λ k. (same k).number, λ k. (same k).image)
+
+-- what the entry's tests rest on
+pub ruleset ways = (
+  image_read,
+  image_not_read,
+  image_long,
+  catch_up_wrong_image,
+  catch_up_too_many,
+  catch_up_none,
+  catch_up_dark,
+  catch_up_stopped,
+)

@@ -39,25 +39,25 @@ fn write_left(left: Left, image: &mut [u8])
     requires { length image.old ≡ image_size }
     ensures { image.new ≡ sets (set image.old CONTROL_AT left.control) CORE_SECONDS_AT (calendar_bytes left.core) }
 {
-    let core = left.core;
     image[CONTROL_AT] = left.control;
-    write_calendar(core, image, CORE_SECONDS_AT);
+    write_calendar(left.core, image, CORE_SECONDS_AT);
 }
 
 // Lets 02h to 08h take the core, unless R or W is 1: then they stay.
+#[tactic(auto, using(crate::proofs::Written::follow_kept, crate::proofs::Written::follow_written))]
 fn let_time_follow(control: u8, core: Calendar, image: &mut [u8])
     requires { length image.old ≡ image_size }
     ensures { image.new ≡ followed_on control core image.old }
 {
-    if has(control, W) | has(control, R) {
-        return;
+    if !has(control, W) && !has(control, R) {
+        write_calendar(core, image, SECONDS_AT);
     }
-    write_calendar(core, image, SECONDS_AT);
 }
 
 // Ticks that count, on the image of a state: the core goes on by all of them, the flags of all rise, and 02h to 08h follow
 // the last core. An invalid core stays and raises nothing, so that nothing but 02h to 08h is written: it has a way of its
 // own to the end.
+#[tactic(auto, using(calendar::proofs::Tests::true_test))]
 pub(crate) fn count(image: &mut [u8], n: u32)
     requires { (length image.old ≡ image_size) × (0 < n) × (n ≤ most_ticks) }
     ensures { CountedOn n image.old image.new }
@@ -69,7 +69,6 @@ pub(crate) fn count(image: &mut [u8], n: u32)
         return;
     }
     let last = advanced(control, alarm_at(image), core, n);
-    let reached = last.core;
     write_left(last, image);
-    let_time_follow(control, reached, image);
+    let_time_follow(control, last.core, image);
 }

@@ -9,6 +9,7 @@
 #![tactic(auto)]
 
 ghost use Rattle.std.specs.Prelude.{◌≡◌};
+ghost use Rattle.numbers.specs.Refusal.{number_told};
 ghost use Rattle.c_catch_up.specs.CatchUp.{CatchUpSettled};
 
 use crate::bytes::count;
@@ -18,7 +19,7 @@ use bus_image::places::SUPPLIES_AT;
 use fm3130_accept::is_image;
 use fm3130_image::places::TRIM_AT;
 use fm3130_registers::map::OSCEN;
-use numbers::{ACCEPTED, TOO_MANY_TICKS, WRONG_STATE};
+use numbers::{Refusal, number_told};
 
 mod bytes;
 mod search;
@@ -29,25 +30,27 @@ pub const MOST_TICKS: u64 = 31622400;
 
 // Catches up: refused by the first number that fits, with nothing written; or the image of the state that so many ticks
 // lead to, one by one. No tick changes nothing, and neither do ticks without a supply or while the oscillator is off.
+#[tactic(auto, using(crate::proofs::Ways::ways))]
+fn catch_up(image: &mut [u8], ticks: u64) -> Result<(), Refusal>
+    ensures { CatchUpSettled image.old ticks (number_told result) image.new }
+{
+    if !is_image(image) {
+        return Err(Refusal::WrongState);
+    }
+    if MOST_TICKS < ticks {
+        return Err(Refusal::TooManyTicks);
+    }
+    if ticks == 0 || POWER_BACKUP < image[SUPPLIES_AT] || has(image[TRIM_AT], OSCEN) {
+        return Ok(());
+    }
+    count(image, ticks as u32);
+    Ok(())
+}
+
+// The same for C, which is told the number of the refusal, or 0.
 #[unsafe(no_mangle)]
 pub extern "C" fn fm3130_catch_up(image: &mut [u8], ticks: u64) -> u64
     ensures { CatchUpSettled image.old ticks result image.new }
 {
-    if !is_image(image) {
-        return WRONG_STATE as u64;
-    }
-    if MOST_TICKS < ticks {
-        return TOO_MANY_TICKS as u64;
-    }
-    if ticks == 0 {
-        return ACCEPTED as u64;
-    }
-    if POWER_BACKUP < image[SUPPLIES_AT] {
-        return ACCEPTED as u64;
-    }
-    if has(image[TRIM_AT], OSCEN) {
-        return ACCEPTED as u64;
-    }
-    count(image, ticks as u32);
-    ACCEPTED as u64
+    number_told(catch_up(image, ticks))
 }

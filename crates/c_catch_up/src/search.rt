@@ -2,11 +2,11 @@
 // Whether one of many seconds rings the alarm, without looking at each. The seconds of a stretch that pass lie in a
 // stretch of minutes, those in a stretch of hours, those in a stretch of days; the days are looked at month by month, and
 // months of another name than the one asked for are passed over.
-ghost use Rattle.std.specs.Prelude.{◌≡◌, ◌+◌, ◌≤◌, ◌<◌, leb};
+ghost use Rattle.std.specs.Prelude.{◌≡◌, ◌+◌, ◌≤◌, ◌<◌, leb, unwrap_or};
 ghost use Rattle.calendar.specs.Instant.{month_start};
 ghost use Rattle.calendar_days.specs.Code.Places.{Standing};
 ghost use Rattle.calendar_days.specs.After.{most_ticks};
-ghost use Rattle.c_catch_up.specs.Code.Search.{passes, Asks, Some, Tells, DayRings, Narrowed, Skips, Later};
+ghost use Rattle.c_catch_up.specs.Code.Search.{passes, Asks, Some, Tells, DayRings, Narrowed, Skips};
 ghost use Rattle.c_catch_up.specs.Code.Ticks.{TellsRung};
 
 use bits::has;
@@ -16,29 +16,33 @@ use fm3130_companion::Alarm;
 use fm3130_registers::map::MATCH;
 
 // Numbers that follow each other, the last not included: seconds, minutes, hours or days of the century.
+// Stays (plain): it has a method of its own, `narrowed`, which a `Range` cannot be given, and is passed on by copy.
 #[derive(Clone, Copy)]
 pub struct Stretch {
     pub from: u32,
     pub to: u32,
 }
 
-// The number that an alarm field without Match asks for; 255 where its digits are none.
-fn asked(alarm: u8) -> u32
-    ensures { Asks alarm result }
+// The number that an alarm field without Match asks for, if its digits are any. No field of a calendar holds 255.
+#[tactic(auto, using(crate::proofs::Narrow::asks_none, crate::proofs::Narrow::asks_one))]
+fn asked(alarm: u8) -> Option<u32>
+    ensures { Asks alarm (unwrap_or result 255) }
 {
     let byte = alarm % 128;
-    if 9 < byte % 16 {
-        return 255;
+    if byte % 16 < 10 {
+        Some(number(byte))
+    } else {
+        None
     }
-    number(byte)
 }
 
 // Whether an alarm field lets a number pass.
+#[tactic(auto, using(crate::proofs::Narrow::passes_is))]
 fn passes(alarm: u8, number: u32) -> bool
     requires { number < 255 }
     ensures { result ≡ passes alarm number }
 {
-    has(alarm, MATCH) | (asked(alarm) == number)
+    has(alarm, MATCH) || asked(alarm) == Some(number)
 }
 
 impl Stretch {
@@ -57,6 +61,7 @@ impl Stretch {
 
     // The numbers of the next larger unit, `span` of this one's, in which one of these passes: from the first one's to the
     // last one's, or, where a number is asked for, those in which it comes.
+    #[tactic(auto, using(crate::proofs::Narrow::narrowing))]
     fn narrowed(self, alarm: u8, span: u32) -> Stretch
         requires { (0 < span) × (span ≤ 60) × (self.from < self.to) × (self.to ≤ 4000000000) }
         ensures { Narrowed alarm span self result }
@@ -67,19 +72,21 @@ impl Stretch {
                 to: (self.to - 1) / span + 1,
             };
         }
-        let number = asked(alarm);
-        if span <= number {
-            return Stretch::none();
-        }
-        let slack = span - 1 - number;
-        Stretch {
-            from: (self.from + slack) / span,
-            to: (self.to + slack) / span,
+        match asked(alarm) {
+            Some(number) if number < span => {
+                let slack = span - 1 - number;
+                Stretch {
+                    from: (self.from + slack) / span,
+                    to: (self.to + slack) / span,
+                }
+            }
+            _ => Stretch::none(),
         }
     }
 }
 
 // Whether a day rings that is in a month and from `from` to below `to`. A month has each date once at most.
+#[tactic(auto, using(calendar_days::proofs::Months::month_start_most, crate::proofs::Rings::rings_any))]
 fn rings_in(alarm: Alarm, month: u32, from: u32, to: u32) -> bool
     requires { (month < 2399) × (month_start month ≤ from) × (from < to) }
     ensures { Tells result (Some (λ d. (d < month_start (month + 1)) × DayRings alarm d) from to) }
@@ -91,12 +98,16 @@ fn rings_in(alarm: Alarm, month: u32, from: u32, to: u32) -> bool
     if has(alarm.date, MATCH) {
         return from < next;
     }
-    let end = month_start(month) + asked(alarm.date);
-    (from < end) & (end <= next) & (end <= to)
+    let Some(date) = asked(alarm.date) else {
+        return false;
+    };
+    let end = month_start(month) + date;
+    from < end && end <= next.min(to)
 }
 
-// The next month to look at: the one after, or, where a month of the year is asked for, the next of that name. A number
-// asked for is at most 255, and 264 is whole years.
+// The next month to look at: the one after, or, where a month of the year is asked for, the next of that name; the same of
+// the next year where there is no such name. A number asked for is at most 255, and 264 is whole years.
+#[tactic(auto, using(crate::proofs::Narrow::skips_none, crate::proofs::Narrow::skips_one))]
 fn next_month(alarm: u8, month: u32) -> u32
     requires { month < 2400 }
     ensures { Skips alarm month result }
@@ -104,18 +115,10 @@ fn next_month(alarm: u8, month: u32) -> u32
     if has(alarm, MATCH) {
         return month + 1;
     }
-    let past = (month + 265 - asked(alarm)) % 12;
-    month + 12 - past
-}
-
-// The later of two days.
-fn later(day: u32, start: u32) -> u32
-    ensures { Later day start result }
-{
-    if day < start {
-        return start;
+    match asked(alarm) {
+        Some(name) => month + 12 - (month + 265 - name) % 12,
+        None => month + 12,
     }
-    day
 }
 
 // Whether one of some days rings, month by month from one on that starts before them. Where neither a date nor a month is
@@ -124,18 +127,17 @@ fn rings_on(alarm: Alarm, first: u32, days: Stretch) -> bool
     requires { (month_start first ≤ days.from) × (days.from < days.to) × (days.to ≤ 72000) }
     ensures { Tells result (Some (DayRings alarm) days.from days.to) }
 {
-    if has(alarm.date, MATCH) & has(alarm.month, MATCH) {
+    if has(alarm.date, MATCH) && has(alarm.month, MATCH) {
         return true;
     }
-    let to = days.to;
     let mut day = days.from;
     let mut month = first;
-    while day < to {
-        if rings_in(alarm, month, day, to) {
+    while day < days.to {
+        if rings_in(alarm, month, day, days.to) {
             return true;
         }
         month = next_month(alarm.month, month);
-        day = later(day, month_start(month));
+        day = day.max(month_start(month));
     }
     false
 }

@@ -20,16 +20,16 @@ pub struct Left {
 }
 
 // Ticks that count, of a valid core: it goes on by all of them, and the flags of all rise.
+#[tactic(auto, using(calendar::proofs::Tests::test_true, calendar_days::proofs::Standing::stands), unfolding(calendar_days::specs::After::after_of))]
 pub(crate) fn advanced(control: u8, alarm: Alarm, core: Calendar, n: u32) -> Left
     requires { (T (is_valid core)) × (0 < n) × (n ≤ most_ticks) }
     ensures { result ≡ left_of n control alarm core }
 {
     let from = standing(core);
     let last = ahead(core, from, n);
-    let calendar = last.calendar;
     let rung = rings_within(alarm, from, n);
     Left {
         control: told(control, rung, last.century),
-        core: calendar,
+        core: last.calendar,
     }
 }

@@ -5,6 +5,7 @@ ghost use Rattle.calendar.specs.Field.{value, bcd, in_field, step_of};
 ghost use Rattle.calendar.specs.Mend.{mended_field, clipped_date};
 
 // A field that took a carry or none: the byte that it then holds, and whether it carries on to the next field.
+// Stays (plain): the byte means something with a carry and without one, so a flag stands beside it.
 #[derive(Clone, Copy)]
 pub struct Carried {
     pub byte: u8,
@@ -47,7 +48,7 @@ pub(crate) fn is_day(byte: u8) -> bool
 
 // A field after a carry or none: as it was, back at `low` with a carry on, or one up. Where the low digit is 9 it
 // goes to 0 and the high digit one up: 10h more and 9 less, so 7 more.
-#[tactic(auto, using(crate::proofs::Field::in_field_facts, crate::proofs::Field::bcd_next_nine, crate::proofs::Field::bcd_next_less), unfolding(crate::specs::Field::step_of))]
+#[tactic(auto, using(crate::proofs::Step::stepping), unfolding(crate::specs::Field::step_of))]
 pub(crate) fn step(byte: u8, low: u8, top: u8, carry: bool) -> Carried
     requires { (T (in_field low top byte)) × (top < 100) }
     ensures { result ≡ step_of low top carry byte }

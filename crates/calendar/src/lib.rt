@@ -55,6 +55,7 @@ impl Rolled {
 }
 
 // A calendar after a tick, whether year 99 gave way to 00, and the highest field that changed.
+// Stays (plain): the calendar means something at a century's end and before it, so a flag stands beside it.
 #[derive(Clone, Copy, Debug, PartialEq, Eq)]
 pub struct Advanced {
     pub calendar: Calendar,
@@ -84,7 +85,8 @@ impl Calendar {
     }
 
     // Whether the calendar is a date and a time that exist: by its digits, so that no number is made of them. A byte that
-    // is no month has no last date, so no date is within it.
+    // is no month has no last date, so no date is within it. Each tick asks: the hint spares it the call.
+    #[inline]
     #[tactic(auto, using(crate::proofs::Digits::date_tested), unfolding(crate::specs::Next::is_valid))]
     pub fn is_valid(self) -> bool
         ensures { result ≡ is_valid self }

@@ -21,6 +21,7 @@ pub mod starts;
 const CENTURY: u32 = 36525;
 
 // The calendar that many ticks reach, and whether year 99 gave way to 00 on the way.
+// Stays (plain): the calendar means something past a century's end and before it, so a flag stands beside it.
 #[derive(Clone, Copy, Debug, PartialEq, Eq)]
 pub struct Reached {
     pub calendar: Calendar,

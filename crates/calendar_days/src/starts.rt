@@ -345,7 +345,7 @@ pub struct Place {
 // before its even share of the days: so the day is in the month of its share, or in the one before, and the table says in
 // which. Of 1,461 days only 40 are in the one before, so the table is looked up again for these alone: a second look-up
 // waits for the first one's answer.
-#[tactic(auto, using(crate::proofs::Months::in_share, crate::proofs::Months::share_some, crate::proofs::Months::before_share, crate::proofs::Months::stands_found))]
+#[tactic(auto, using(crate::proofs::Months::placing))]
 pub fn place_of(day: u32) -> Place
     requires { day < 73000 }
     ensures { StandsIn day result }

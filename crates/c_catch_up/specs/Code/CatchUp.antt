@@ -12,7 +12,6 @@ use Rattle.fm3130.specs.Code.Bus.{with_companion}
 use Rattle.fm3130.specs.declared.State.{State}
 use Rattle.fm3130_image.specs.Image.{calendar_bytes, image_of}
 use Rattle.c_catch_up.specs.Code.Ticks.{caught_of}
-use Rattle.c_catch_up.specs.CatchUp.{ticks}
 
 -- Auxiliary: five bytes of an image.
 abbrev pub alarm_at : List ℕ → Alarm

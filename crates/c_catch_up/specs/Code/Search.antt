@@ -7,7 +7,6 @@
 --   Tells r A            the test r tells whether A
 --   DayRings a d         the date and the month of the day d pass
 --   Skips a k j          j is a later month than k, and those between do not pass
---   Later a b r          r is the later of the days a and b
 --   Narrowed a b s r     r are the minutes (hours, days) in which some second (minute, hour) of s passes
 use Rattle.std.specs.Prelude.{ℕ, ◌+◌, ◌-◌, ◌/◌, ◌%◌, ◌≤◌, ◌<◌, ◌≡◌, Bool, true, false, eqb}
 use Rattle.calendar.specs.Field.{bcd}
@@ -44,11 +43,6 @@ pub record Skips (alarm month later : ℕ) : Type 0 where
   pub after : month < later
   pub most : later ≤ month + 12
   pub none : (k : ℕ) → month < k → k < later → passes alarm (k % 12 + 1) ≡ true → ⊥
-
-pub record Later (day start r : ℕ) : Type 0 where
-  pub first : day ≤ r
-  pub second : start ≤ r
-  pub one : (d : ℕ) → d < r → start ≤ d → d < day
 
 pub record Narrowed (alarm span : ℕ) (s r : Stretch) : Type 0 where
   pub most : r.to ≤ s.to / span + 1

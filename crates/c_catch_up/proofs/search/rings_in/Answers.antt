@@ -2,47 +2,29 @@
 -- `c_catch_up::search::rings_in` meets its contract: each return cites its case in Rings.
 use native.Mathlib.Omega.{arith}
 use mathlib.Core.Path.{sym, ◌∙◌}
-use Rattle.calendar_days.proofs.Months.{month_start_most}
-use Rattle.c_catch_up.proofs.Rings.{rings_other, rings_any, rings_one}
+use Rattle.c_catch_up.proofs.Rings.{rings_other, rings_begun, rings_past}
 use Rattle.c_catch_up.proofs.search.rings_in.Goals as goal
 
 pub returns-then-not-passes : goal.returns-then-not-passes
 returns-then-not-passes c =
-    let s = c in
-    rings_other s.args.alarm s.args.month s.args.from s.args.to (omega (arith, s.requires.0)) s.requires.1
+    let s = c.args in
+    rings_other s.alarm s.month s.from s.to (omega (arith, c.requires.0)) c.requires.1
     (sym c.passes.ensures ∙ c.if-not-passes.true)
 
-pub returns-then-has : goal.returns-then-has
-returns-then-has c =
-    let next = c in
-    let i = next in
-    let s = i in
-    rw next.month_start-next.ensures.0
-    (rings_any s.args.alarm s.args.month s.args.from s.args.to (omega (arith, s.requires.0)) s.requires.1 s.requires.2
-    (sym i.passes.ensures ∙ i.if-not-passes.false)
-    (sym c.has.ensures ∙ c.if-has.true))
+pub returns-then-from-end : goal.returns-then-from-end
+returns-then-from-end c =
+    let s = c.args in
+    let e = c.month_start.ensures.0 in
+    rw (c.min.ensures, c.month_start-next.ensures.0, e)
+    (rings_begun s.alarm s.month s.from s.to (omega (arith, c.requires.0)) c.requires.1 c.requires.2
+    (sym c.passes.ensures ∙ c.if-not-passes.false) c.in-Some.date c.in-Some.ensures
+    (sym c.has.ensures ∙ c.if-has.false) (omega (arith, e, c.if-from-end.true)))
 
-pub overflow_add-end : goal.overflow_add-end
-overflow_add-end c =
-    let s = c in
-    record {
-      fits =
-          omega (
-            arith,
-            month_start_most s.args.month (omega (arith, s.requires.0)),
-            c.month_start.ensures.0,
-            c.asked.ensures.least,
-          );
-    }
-
-pub returns : goal.returns
-returns c =
-    let start = c in
-    let any = start in
-    let next = any in
-    let i = next in
-    let s = i in
-    rw (next.month_start-next.ensures.0, start.month_start.ensures.0)
-    (rings_one s.args.alarm s.args.month s.args.from s.args.to (omega (arith, s.requires.0)) s.requires.1 s.requires.2
-    (sym i.passes.ensures ∙ i.if-not-passes.false)
-    c.asked.result c.asked.ensures (sym any.has.ensures ∙ any.if-has.false))
+pub returns-else-from-end : goal.returns-else-from-end
+returns-else-from-end c =
+    let s = c.args in
+    let e = c.month_start.ensures.0 in
+    rw e
+    (rings_past s.alarm s.month s.from s.to (omega (arith, c.requires.0)) c.requires.1 c.requires.2
+    (sym c.passes.ensures ∙ c.if-not-passes.false) c.in-Some.date c.in-Some.ensures
+    (sym c.has.ensures ∙ c.if-has.false) (omega (arith, e, c.if-from-end.false)))

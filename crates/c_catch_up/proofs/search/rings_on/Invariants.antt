@@ -8,7 +8,7 @@ use Rattle.c_catch_up.proofs.search.rings_on.Given as goal
 
 abbrev pub invariant-loop-day : goal.invariant-loop-day
 invariant-loop-day l =
-    (month_start l.month ≤ l.day) × (l.initial.day ≤ l.day) × ((d : ℕ) → l.initial.day ≤ d → d < l.day → d < l.to → DayRings l.alarm d → ⊥)
+    (month_start l.month ≤ l.day) × (l.initial.day ≤ l.day) × ((d : ℕ) → l.initial.day ≤ d → d < l.day → d < l.days.to → DayRings l.alarm d → ⊥)
 
 abbrev pub decreases-loop-day : goal.decreases-loop-day
 decreases-loop-day l = 2400 - l.month

@@ -9,80 +9,32 @@ use Rattle.c_catch_up.specs.Code.Search.{DayRings}
 use Rattle.c_catch_up.proofs.Rings.{Passing, tells_narrowed, tells_empty, narrowed_first, rung_by}
 use Rattle.c_catch_up.proofs.search.rings_within.Goals as goal
 
-pub overflow_mul-first : goal.overflow_mul-first
-overflow_mul-first c = record { fits = omega (arith, c.requires.0.day) }
-
-pub overflow_add-first : goal.overflow_add-first
-overflow_add-first c = record { fits = omega (arith, c.requires.0.day, c.requires.0.second) }
-
-pub overflow_add-first-2 : goal.overflow_add-first-2
-overflow_add-first-2 c = record { fits = omega (arith, c.requires.0.day, c.requires.0.second) }
-
-pub overflow_add-seconds : goal.overflow_add-seconds
-overflow_add-seconds c =
-    let s = c in
-    record { fits = omega (arith, s.requires.0.day, s.requires.0.second, s.requires.2) }
-
-pub narrowed-minutes-requires : goal.narrowed-minutes-requires
-narrowed-minutes-requires c =
-    let s = c in
-    (omega arith, omega arith, omega (arith, s.requires.1), omega (arith, s.requires.0.day, s.requires.0.second, s.requires.2))
-
 pub returns-then-is_empty : goal.returns-then-is_empty
 returns-then-is_empty c =
-    let minutes = c in
-    let s = minutes in
-    let a = s.args.alarm in
+    let a = c.args.alarm in
     let P = Passing a.minutes 60 (Passing a.hours 24 (DayRings a)) in
-    let l = leb-true _ _ (sym c.is_empty.ensures ∙ c.if-is_empty.true) in
-    rung_by a s.args.from s.args.n _ s.requires.2
-    (tells_narrowed a.seconds 60 _ minutes.narrowed-minutes.result P minutes.narrowed-minutes.ensures (tells_empty P _ _ l))
-
-pub narrowed-hours-requires : goal.narrowed-hours-requires
-narrowed-hours-requires c =
-    let minutes = c in
-    let s = minutes in
-    let l = leb-false _ _ (sym c.is_empty.ensures ∙ c.if-is_empty.false) in (
-      omega arith,
-      omega arith,
-      l,
-      omega (arith, minutes.narrowed-minutes.ensures.most, s.requires.0.day, s.requires.0.second, s.requires.2),
-    )
+    rung_by a c.args.from c.args.n _ c.requires.2
+    (tells_narrowed a.seconds 60 _ _ P c.narrowed-minutes.ensures
+    (tells_empty P _ _ (leb-true _ _ (sym c.is_empty.ensures ∙ c.if-is_empty.true))))
 
 pub returns-then-is_empty-2 : goal.returns-then-is_empty-2
 returns-then-is_empty-2 c =
-    let hours = c in
-    let minutes = hours in
-    let s = minutes in
-    let a = s.args.alarm in
+    let a = c.args.alarm in
     let P = Passing a.hours 24 (DayRings a) in
-    let l = leb-true _ _ (sym c.is_empty-2.ensures ∙ c.if-is_empty-2.true) in
-    rung_by a s.args.from s.args.n _ s.requires.2
-    (tells_narrowed a.seconds 60 _ minutes.narrowed-minutes.result (Passing a.minutes 60 P) minutes.narrowed-minutes.ensures
-    (tells_narrowed a.minutes 60 _ hours.narrowed-hours.result P hours.narrowed-hours.ensures (tells_empty P _ _ l)))
-
-pub narrowed-days-requires : goal.narrowed-days-requires
-narrowed-days-requires c =
-    let hours = c in
-    let minutes = hours in
-    let s = minutes in
-    let l = leb-false _ _ (sym c.is_empty-2.ensures ∙ c.if-is_empty-2.false) in
-    let m = minutes.narrowed-minutes.ensures.most in
-    (omega arith, omega arith, l, omega (arith, m, hours.narrowed-hours.ensures.most, s.requires.0.day, s.requires.0.second, s.requires.2))
+    rung_by a c.args.from c.args.n _ c.requires.2
+    (tells_narrowed a.seconds 60 _ _ (Passing a.minutes 60 P) c.narrowed-minutes.ensures
+    (tells_narrowed a.minutes 60 _ _ P c.narrowed-hours.ensures
+    (tells_empty P _ _ (leb-true _ _ (sym c.is_empty-2.ensures ∙ c.if-is_empty-2.true)))))
 
 pub returns-then-is_empty-3 : goal.returns-then-is_empty-3
 returns-then-is_empty-3 c =
-    let days = c in
-    let hours = days in
-    let minutes = hours in
-    let s = minutes in
-    let a = s.args.alarm in
+    let a = c.args.alarm in
     let P = Passing a.hours 24 (DayRings a) in
-    let l = leb-true _ _ (sym c.is_empty-3.ensures ∙ c.if-is_empty-3.true) in
-    rung_by a s.args.from s.args.n _ s.requires.2
-    (tells_narrowed a.seconds 60 _ minutes.narrowed-minutes.result (Passing a.minutes 60 P) minutes.narrowed-minutes.ensures
-    (tells_narrowed a.minutes 60 _ hours.narrowed-hours.result P hours.narrowed-hours.ensures
-    (tells_narrowed a.hours 24 _ days.narrowed-days.result (DayRings a) days.narrowed-days.ensures (tells_empty (DayRings a) _ _ l))))
+    rung_by a c.args.from c.args.n _ c.requires.2
+    (tells_narrowed a.seconds 60 _ _ (Passing a.minutes 60 P) c.narrowed-minutes.ensures
+    (tells_narrowed a.minutes 60 _ _ P c.narrowed-hours.ensures
+    (tells_narrowed a.hours 24 _ _ (DayRings a) c.narrowed-days.ensures
+    (tells_empty (DayRings a) _ _ (leb-true _ _ (sym c.is_empty-3.ensures ∙ c.if-is_empty-3.true))))))
 
 -- the first day that is left is not before the day of the first second
 first-day : (x y z i h m d : ℕ) → i ≤ x → x / 60 ≡ m → m ≤ y → y / 60 ≡ h → h ≤ z → z / 24 ≡ d → i / 86400 ≤ d
@@ -90,35 +42,30 @@ first-day x y z i h m d a b e f g k = omega arith
 
 pub rings_on-requires : goal.rings_on-requires
 rings_on-requires c =
-    let days = c in
-    let hours = days in
-    let minutes = hours in
-    let s = minutes in
+    let minutes = c.narrowed-minutes in
+    let hours = c.narrowed-hours in
+    let days = c.narrowed-days in
     let ld = leb-false _ _ (sym c.is_empty-3.ensures ∙ c.if-is_empty-3.false) in
-    let lh = leb-false _ _ (sym days.is_empty-2.ensures ∙ days.if-is_empty-2.false) in
-    let lm = leb-false _ _ (sym hours.is_empty.ensures ∙ hours.if-is_empty.false) in
-    let x = narrowed_first _ 60 _ minutes.narrowed-minutes.result minutes.narrowed-minutes.ensures lm in
-    let y = narrowed_first _ 60 _ hours.narrowed-hours.result hours.narrowed-hours.ensures lh in
-    let z = narrowed_first _ 24 _ days.narrowed-days.result days.narrowed-days.ensures ld in
+    let lh = leb-false _ _ (sym c.is_empty-2.ensures ∙ c.if-is_empty-2.false) in
+    let lm = leb-false _ _ (sym c.is_empty.ensures ∙ c.if-is_empty.false) in
+    let x = narrowed_first _ 60 _ minutes.result minutes.ensures lm in
+    let y = narrowed_first _ 60 _ hours.result hours.ensures lh in
+    let z = narrowed_first _ 24 _ days.result days.ensures ld in
     let f =
-    first-day x.at y.at z.at _ hours.narrowed-hours.result.from minutes.narrowed-minutes.result.from
-    days.narrowed-days.result.from x.from x.holds y.from y.holds z.from z.holds in
-    let m = minutes.narrowed-minutes.ensures.most in
-    let h = hours.narrowed-hours.ensures.most in (
-      omega (arith, s.requires.0.month, s.requires.0.second),
+    first-day x.at y.at z.at _ hours.result.from minutes.result.from days.result.from x.from x.holds y.from y.holds z.from
+    z.holds in
+    let m = minutes.ensures.most in
+    let h = hours.ensures.most in (
+      omega (arith, c.requires.0.month, c.requires.0.second),
       ld,
-      omega (arith, days.narrowed-days.ensures.most, s.requires.0.day, s.requires.0.second, s.requires.2),
+      omega (arith, days.ensures.most, c.requires.0.day, c.requires.0.second, c.requires.2),
     )
 
 pub returns : goal.returns
 returns c =
-    let days = c in
-    let hours = days in
-    let minutes = hours in
-    let s = minutes in
-    let a = s.args.alarm in
+    let a = c.args.alarm in
     let P = Passing a.hours 24 (DayRings a) in
-    rung_by a s.args.from s.args.n _ s.requires.2
-    (tells_narrowed a.seconds 60 _ minutes.narrowed-minutes.result (Passing a.minutes 60 P) minutes.narrowed-minutes.ensures
-    (tells_narrowed a.minutes 60 _ hours.narrowed-hours.result P hours.narrowed-hours.ensures
-    (tells_narrowed a.hours 24 _ days.narrowed-days.result (DayRings a) days.narrowed-days.ensures c.rings_on.ensures)))
+    rung_by a c.args.from c.args.n _ c.requires.2
+    (tells_narrowed a.seconds 60 _ _ (Passing a.minutes 60 P) c.narrowed-minutes.ensures
+    (tells_narrowed a.minutes 60 _ _ P c.narrowed-hours.ensures
+    (tells_narrowed a.hours 24 _ _ (DayRings a) c.narrowed-days.ensures c.rings_on.ensures)))
