@@ -32,6 +32,7 @@ pub struct State {
 }
 
 // What an answered event leaves: the next state, and the answer byte.
+// Stays (plain): one type over any part's state would read `Answered<State>` wherever it is named, here and in `fm31`.
 #[derive(Clone, Copy)]
 pub struct Answered {
     pub state: State,

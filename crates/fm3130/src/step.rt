@@ -41,18 +41,20 @@ fn accepted(state: State, answer: u8, rolled: Rolled) -> Stepped
     }
 }
 
-impl State {
-    // All of the state but its companion.
-    fn bus(self) -> Bus
-        ensures { result ≡ bus_of self }
-    {
+// All of the state but its companion.
+impl From<State> for Bus {
+    ghost from_gives = { λ s u. u ≡ bus_of s };
+
+    fn from(state: State) -> Bus {
         Bus {
-            power: self.power,
-            phase: self.phase,
-            address: self.address,
+            power: state.power,
+            phase: state.phase,
+            address: state.address,
         }
     }
+}
 
+impl State {
     // A bus with a companion beside it.
     fn with(bus: Bus, companion: Companion) -> State
         ensures { result ≡ state_with bus companion }
@@ -79,7 +81,7 @@ impl State {
         requires event_bound { event ≤ 7 }
         ensures { ToldWith result memory.new (event_of self memory.old event) (rolled_in self event) }
     {
-        let bus = self.bus();
+        let bus = Bus::from(self);
         let guard = self.companion.guard();
         let served = serve(self.companion, deed_of(bus, event));
         let went = bus.happen(memory, MEMORY_SIZE, LONE, guard, served.reply, event);

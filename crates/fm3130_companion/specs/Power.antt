@@ -3,7 +3,7 @@
 --   lost_date, lost_registers   what both supplies' loss leaves of the calendar and of the registers
 --   backed_of, lost_of          main power lost with backup; both supplies gone, which is the fresh companion too
 --   returned_of                the companion when main power returns after backup
-use Rattle.std.specs.Prelude.{ℕ, ◌+◌}
+use Rattle.std.specs.Prelude.{◌+◌}
 use Rattle.calendar.specs.declared.Calendar.{Calendar}
 use Rattle.fm3130_companion.specs.declared.Registers.{Registers}
 use Rattle.fm3130_companion.specs.declared.Companion.{Companion}

@@ -1,20 +1,14 @@
 -- SPDX-License-Identifier: Apache-2.0
 -- A write by its address: 0Dh to 18h keep the whole byte; outside a locked serial number the byte is stored.
-use Rattle.std.proofs.Common.{◌≡◌, ℕ, ◌-◌, ◌<◌, ◌≤◌, true, false, ◌&&◌, leb, [], ◌∷◌, get_or, refl, zero-le, arith}
-use Rattle.bits.proofs.Cases.{NoneFrom, is_last, Below, none, ◌then◌, below}
+use Rattle.std.proofs.Common.{◌≡◌, ℕ, ◌-◌, ◌<◌, ◌≤◌, true, false, ◌&&◌, leb, [], ◌∷◌, get_or, refl, arith}
+use Rattle.bits.proofs.Cases.{Below, none, ◌then◌, below}
 use Rattle.fm31_counters.specs.declared.Registers.{Registers}
 use Rattle.fm31_counters.specs.Map.{SERIAL}
 use Rattle.fm31_counters.specs.Registers.{put_at}
 use Rattle.fm31_counters.specs.Write.{flags_after, watchdog_after, control_after, counting_after}
 use Rattle.fm31_counters.specs.Write.{kept_at, is_locked, registers_after}
 
--- the last of the sixteen places, and the addresses past 0Ch
-place_le : (a : ℕ) → a ≤ 24 → a - 9 ≤ 15
-place_le a h = omega arith
-
-pub last_place : (a : ℕ) → NoneFrom 0 (a - 9) 15 → a ≤ 24 → a - 9 ≡ 15
-last_place a n h = is_last 0 15 (a - 9) zero-le n (place_le a h)
-
+-- the addresses past 0Ch
 pub past_counting : (a : ℕ) → 9 ≤ a → (a ≡ 9 → ⊥) → (a ≡ 10 → ⊥) → (a ≡ 11 → ⊥) → (a ≡ 12 → ⊥) → 13 ≤ a
 past_counting a l d e f g = omega arith
 

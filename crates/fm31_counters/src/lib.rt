@@ -43,6 +43,8 @@ pub struct Counts {
 }
 
 // Registers 11h to 18h.
+// Stays (fixed): eight fields and no array, since `fm31_image::proofs::Images::candidate_of` and other laws hold of every state, and an
+// array is in definitions a list of any length.
 #[derive(Clone, Copy, Default)]
 pub struct Serial {
     pub sn0: u8,
