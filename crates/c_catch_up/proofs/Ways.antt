@@ -6,6 +6,7 @@ use mathlib.Core.Bool.{true, false}
 use mathlib.Core.List.{List}
 use lib.ListN.{get_or}
 use borrow.Author.Tests.{le-leb, lt-leb}
+use Rattle.std.specs.Prelude.{Some, None}
 use Rattle.calendar_days.specs.After.{most_ticks}
 use Rattle.bits.specs.Weight.{has}
 use Rattle.fm3130_registers.specs.Map.{OSCEN}
@@ -15,7 +16,6 @@ use Rattle.fm3130.specs.declared.State.{State}
 use Rattle.fm3130_image.specs.Image.{image_of, candidate, decode_of}
 use Rattle.fm3130_image.specs.Code.Accepting.{is_image}
 use Rattle.fm3130_image.specs.Made.{Made}
-use Rattle.fm3130_image.specs.declared.Decoded.TheVariants.{Good, Bad}
 use Rattle.fm3130_image.proofs.Accepts.{image_read, image_written}
 use Rattle.c_catch_up.specs.CatchUp.{caught_up, catch_up_of, CatchUpSettled}
 use Rattle.c_catch_up.specs.Code.CatchUp.{CountedOn}
@@ -27,11 +27,11 @@ abbrev pub made : ℕ → List ℕ → Made
 made number image = record { number = number; image = image }
 
 module _ (i : List ℕ) (n : ℕ) where
-  pub catch_up_wrong_image : decode_of i ≡ Bad → catch_up_of i n ≡ made wrong_state i
+  pub catch_up_wrong_image : decode_of i ≡ None → catch_up_of i n ≡ made wrong_state i
   unfolding catch_up_of
   catch_up_wrong_image d = rw d
 
-  module _ (s : State) (d : decode_of i ≡ Good s) where
+  module _ (s : State) (d : decode_of i ≡ Some s) where
     pub catch_up_too_many : most_ticks < n → catch_up_of i n ≡ made too_many_ticks i
     unfolding catch_up_of
     catch_up_too_many h = rw (d, lt-leb n most_ticks h)

@@ -3,8 +3,7 @@
 --   ticks, caught_up      n events of byte 4; the state that they lead to as a list
 --   caught_on, catch_up_of  the tests in the order of the numbers
 --   CatchUpSettled       the entry's contract
-use Rattle.std.specs.Prelude.{ℕ, ◌≡◌, cond, List, [], leb, replicate}
-use Rattle.std.proofs.Math.Option.{Option, some, none}
+use Rattle.std.specs.Prelude.{ℕ, ◌≡◌, cond, List, [], leb, replicate, Option, Some, None}
 use Rattle.calendar_days.specs.After.{most_ticks}
 use Rattle.numbers.specs.Numbers.{accepted, too_many_ticks}
 use Rattle.fm3130.specs.declared.State.{State}
@@ -24,8 +23,8 @@ caught_up n s = (run_of s [] (ticks n)).state
 
 -- "Refused by number 8, after number 2, and changes nothing."
 abbrev pub caught_on : ℕ → Option State → List ℕ → ℕ → Made
-caught_on r none i n = record { number = r; image = i }
-caught_on r (some s) i n =
+caught_on r None i n = record { number = r; image = i }
+caught_on r (Some s) i n =
     cond (leb n most_ticks)
     (record { number = accepted; image = image_of (caught_up n s) })
     (record { number = too_many_ticks; image = i })

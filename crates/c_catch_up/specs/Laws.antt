@@ -3,13 +3,12 @@
 --   AsTheListRun       it says and leaves what the list run of as many ticks does, whatever the memory
 --   NoneLeavesAll      n = 0 changes nothing
 --   AcceptedAgain      the image that it leaves is accepted again
-use Rattle.std.specs.Prelude.{ℕ, ◌≤◌, ◌≡◌, List, length}
+use Rattle.std.specs.Prelude.{ℕ, ◌≤◌, ◌≡◌, List, length, Some}
 use Rattle.calendar_days.specs.After.{most_ticks}
 use Rattle.fm3130.specs.Chip.{memory_size}
 use Rattle.fm3130.specs.declared.State.{State}
 use Rattle.fm3130_image.specs.Image.{image_of, decode_of}
 use Rattle.fm3130_list.specs.Run.{outcome_of}
-use Rattle.fm3130_image.specs.declared.Decoded.TheVariants.{Good}
 use Rattle.c_catch_up.specs.CatchUp.{ticks, caught_up, catch_up_of}
 
 -- "One call for n ticks must leave registers, core, AF and CF exactly as n single ticks would": the number and the image are
@@ -29,5 +28,5 @@ NoneLeavesAll = (i : List ℕ) → (catch_up_of i 0).image ≡ i
 
 -- Image and state go both ways after it too.
 abbrev pub AcceptedAgain : Type 0
-AcceptedAgain = (i : List ℕ) (s : State) (n : ℕ) → decode_of i ≡ Good s
-    → decode_of (image_of (caught_up n s)) ≡ Good (caught_up n s)
+AcceptedAgain = (i : List ℕ) (s : State) (n : ℕ) → decode_of i ≡ Some s
+    → decode_of (image_of (caught_up n s)) ≡ Some (caught_up n s)

@@ -9,16 +9,15 @@ use native.Mathlib.Nat.{not-suc-le-zero}
 use lib.Dec.{leb, ltb, eqb}
 use lib.ListN.{length}
 use borrow.Author.Tests.{eqb-true, eqb-false, eq-eqb, ne_eqb, leb-true, leb-false, le-leb, lt-leb, lt-ltb, le-ltb, ltb-true, ltb-false, not-true, not-false}
+use Rattle.std.specs.Prelude.{Option, Some, None, is_some}
 use Rattle.wire.proofs.Tests.{by_test, and_split, and_join}
 use Rattle.fm3130.specs.declared.State.{State}
 use Rattle.fm3130_image.specs.Image.{decode_of}
 use Rattle.fm3130_image.specs.Reading.{WrittenBy}
-use Rattle.fm3130_image.specs.declared.Decoded.{Decoded}
-use Rattle.fm3130_image.specs.declared.Decoded.TheVariants.{Good, Bad}
 use Rattle.fm3130_image.proofs.Images.{image_decode, settled_decode}
 use Rattle.bus_list.specs.Run as list
 use Rattle.fm3130_list.specs.Run.{all_known}
-use Rattle.capture_table.specs.Table.{word_at, entry_at, overlap, is_state, is_accepted, body_of, stands_in, uneven, clashes, clashes_below, is_sound}
+use Rattle.capture_table.specs.Table.{word_at, entry_at, overlap, is_accepted, body_of, stands_in, uneven, clashes, clashes_below, is_sound}
 use Rattle.capture_table.specs.Sections.{first_faulty}
 use Rattle.capture_table.specs.declared.Entry.{Entry}
 use Rattle.capture_table.proofs.Sound.{or_split}
@@ -62,12 +61,12 @@ each_known [] h = refl
 each_known (e ∷ es) h = and_join (leb e 7) (all_known es) (le-leb e 7 h.0) (each_known es h.1)
 
 -- the image of a section
-state_written : (b : List ℕ) (d : Decoded) → decode_of b ≡ d → is_state d ≡ true → (s : State) × WrittenBy b s
-state_written b (Good s) e h = (s, image_decode b s e)
-state_written b Bad e h = absurd (false≢true h)
+state_written : (b : List ℕ) (d : Option State) → decode_of b ≡ d → is_some d ≡ true → (s : State) × WrittenBy b s
+state_written b (Some s) e h = (s, image_decode b s e)
+state_written b None e h = absurd (false≢true h)
 
-written_state : (b : List ℕ) → (s : State) × WrittenBy b s → is_state (decode_of b) ≡ true
-written_state b w = rw (settled_decode b (Good w.0) w.1)
+written_state : (b : List ℕ) → (s : State) × WrittenBy b s → is_some (decode_of b) ≡ true
+written_state b w = rw (settled_decode b (Some w.0) w.1)
 
 -- what 01 refuses of a section
 record Accepts (k : ℕ) (b : List ℕ) : Type 0 where

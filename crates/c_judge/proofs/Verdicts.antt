@@ -9,14 +9,14 @@ use native.Mathlib.Omega.{arith}
 use lib.Dec.{eqb}
 use lib.ListN.{length, take, drop}
 use borrow.Author.Tests.{le-leb, lt-leb, eq-eqb, ne_eqb, eqb-true}
+use Rattle.std.specs.Prelude.{None, is_some}
 use Rattle.wire.proofs.Tests.{by_test}
 use Rattle.fm3130.specs.Chip.{memory_size}
 use Rattle.fm3130_image.specs.Image.{candidate, decode_of}
 use Rattle.fm3130_list.specs.Run.{run_of, all_known}
 use Rattle.fm3130_image.specs.Code.Accepting.{is_image}
-use Rattle.fm3130_image.specs.declared.Decoded.TheVariants.{Bad}
 use Rattle.fm3130_image.proofs.Accepts.{image_not_read}
-use Rattle.capture_table.specs.Table.{body_of, is_state, is_accepted, image_kind, memory_kind, events_kind, answers_kind}
+use Rattle.capture_table.specs.Table.{body_of, is_accepted, image_kind, memory_kind, events_kind, answers_kind}
 use Rattle.capture_table.specs.Sections.{first_faulty, entry_of, section_of}
 use Rattle.capture_table.specs.declared.Entry.{Entry}
 use Rattle.capture_table.proofs.Sound.{sound_of}
@@ -70,10 +70,10 @@ module _ (f : List ℕ) where
 
 -- what the sections of a sound file hold
 module _ (f : List ℕ) (z : first_faulty f ≡ 0) where
-  image_state : decode_of (section_of f image_kind) ≡ Bad → ⊥
+  image_state : decode_of (section_of f image_kind) ≡ None → ⊥
   unfolding is_accepted
   image_state b =
-      let t : is_state (decode_of (section_of f image_kind)) ≡ true = accepted f z image_kind (omega arith) (omega arith) in
+      let t : is_some (decode_of (section_of f image_kind)) ≡ true = accepted f z image_kind (omega arith) (omega arith) in
       false≢true (rw b at t)
 
   pub image_good : is_image (section_of f image_kind) ≡ true

@@ -8,6 +8,7 @@ use mathlib.Core.List.{List}
 use native.Mathlib.Omega.{arith}
 use lib.Dec.{leb, eqb}
 use lib.ListN.{length, replicate}
+use Rattle.std.specs.Prelude.{Option, Some, None}
 use Rattle.fm3130.specs.Chip.{memory_size}
 use Rattle.numbers.specs.Numbers.{accepted, wrong_memory, wrong_state, unknown_event, short_answers}
 use Rattle.fm3130.specs.declared.State.{State}
@@ -16,8 +17,6 @@ use Rattle.fm3130_image.specs.Reading.{decoded_says}
 use Rattle.bus_list.specs.Outcome as list
 use Rattle.fm3130_list.specs.Run.{after, run_of, all_known}
 use Rattle.fm3130_list.specs.Run as Plain
-use Rattle.fm3130_image.specs.declared.Decoded.{Decoded}
-use Rattle.fm3130_image.specs.declared.Decoded.TheVariants.{Good, Bad}
 use Rattle.lamps.specs.Step.{begun, report_of}
 use Rattle.lamps.specs.Statement.{proven_by}
 use Rattle.lamps.specs.declared.Proving.{Proving}
@@ -46,11 +45,11 @@ module _ (i m es a b : List ℕ) where
   accepted_same s true false = refused_same short_answers
   accepted_same s false u = refused_same unknown_event
 
-  decoded_same : (d : Decoded) → is_kept b ≡ true
+  decoded_same : (d : Option State) → is_kept b ≡ true
       → Same (on_decoded d i m es a b) (list.on_decoded after image_of memory_size 7 (decoded_says d).number (decoded_says d).returned i m es a)
   unfolding run_of
-  decoded_same (Good s) k = rw k (accepted_same s (all_known es) (leb (length es) (length a)))
-  decoded_same Bad k = refused_same wrong_state
+  decoded_same (Some s) k = rw k (accepted_same s (all_known es) (leb (length es) (length a)))
+  decoded_same None k = refused_same wrong_state
 
   outcomes_same : (t : Bool) → is_kept b ≡ true
       → Same (cond t (on_decoded (decode_of i) i m es a b) (refused wrong_memory i m a b))
@@ -79,10 +78,10 @@ module _ (i m es a : List ℕ) (s : State) where
   done_reports true false n = omega arith
   done_reports false u n = omega arith
 
-  decoded_reports : (d : Decoded) → d ≡ Good s → Reports (on_decoded d i m es a zeros)
+  decoded_reports : (d : Option State) → d ≡ Some s → Reports (on_decoded d i m es a zeros)
   decoded_reports d e = rw (e, none_kept.taken) (done_reports (all_known es) (leb (length es) (length a)))
 
-  reports : (t : Bool) → decode_of i ≡ Good s → Reports (cond t (on_decoded (decode_of i) i m es a zeros) (refused wrong_memory i m a zeros))
+  reports : (t : Bool) → decode_of i ≡ Some s → Reports (cond t (on_decoded (decode_of i) i m es a zeros) (refused wrong_memory i m a zeros))
   reports true e = decoded_reports (decode_of i) e
   reports false e = λ n. omega arith
 

@@ -6,12 +6,12 @@ use mathlib.Core.Bool.{true, false}
 use mathlib.Core.List.{List}
 use lib.ListN.{length}
 use borrow.Author.Tests.{le-leb, lt-leb, eq-eqb, ne_eqb}
+use Rattle.std.specs.Prelude.{Some, None}
 use Rattle.numbers.specs.Numbers.{accepted, wrong_memory, wrong_state, unknown_event, short_answers}
 use Rattle.fm3130.specs.Chip.{memory_size}
 use Rattle.fm3130.specs.declared.State.{State}
 use Rattle.fm3130_image.specs.Image.{decode_of}
 use Rattle.fm3130_list.specs.Run.{run_of, all_known}
-use Rattle.fm3130_image.specs.declared.Decoded.TheVariants.{Good, Bad}
 use Rattle.lamps.specs.Step.{report_of}
 use Rattle.lamps.specs.Statement.{proven_by}
 use Rattle.lamps_bytes.specs.Kept.{kept_of, bytes_of, is_kept}
@@ -24,11 +24,11 @@ module _ (i m es a b : List ℕ) where
   wrong_memory_lem h = rw (ne_eqb (length m) memory_size h)
 
   module _ (h : length m ≡ memory_size) where
-    pub wrong_image : decode_of i ≡ Bad → outcome_of i m es a b ≡ refused wrong_state i m a b
+    pub wrong_image : decode_of i ≡ None → outcome_of i m es a b ≡ refused wrong_state i m a b
     unfolding outcome_of
     wrong_image d = rw (eq-eqb (length m) memory_size h, d)
 
-    module _ (s : State) (d : decode_of i ≡ Good s) where
+    module _ (s : State) (d : decode_of i ≡ Some s) where
       pub wrong_kept : is_kept b ≡ false → outcome_of i m es a b ≡ refused wrong_state i m a b
       unfolding outcome_of
       wrong_kept q = rw (eq-eqb (length m) memory_size h, d, q)

@@ -1,14 +1,12 @@
 -- SPDX-License-Identifier: Apache-2.0
 -- The list run with the record: the device's list run (01), with the record's bytes stepped along and the report. Refusals
 -- in the order of 01's numbers; record bytes that hold no record are number 2. `LampsSettled` is the whole outcome.
-use Rattle.std.specs.Prelude.{ℕ, ◌≡◌, cond, List, leb, eqb, length}
+use Rattle.std.specs.Prelude.{ℕ, ◌≡◌, cond, List, leb, eqb, length, Option, Some, None}
 use Rattle.numbers.specs.Numbers.{accepted, wrong_memory, wrong_state, unknown_event, short_answers}
 use Rattle.fm3130.specs.Chip.{memory_size}
 use Rattle.fm3130.specs.declared.State.{State}
 use Rattle.fm3130_image.specs.Image.{image_of, decode_of}
 use Rattle.fm3130_list.specs.Run.{Ended, run_of, answers_over, all_known, RanThrough}
-use Rattle.fm3130_image.specs.declared.Decoded.{Decoded}
-use Rattle.fm3130_image.specs.declared.Decoded.TheVariants.{Good, Bad}
 use Rattle.lamps.specs.Step.{report_of}
 use Rattle.lamps.specs.Statement.{proven_by}
 use Rattle.lamps_bytes.specs.Kept.{kept_of, bytes_of, is_kept}
@@ -40,9 +38,9 @@ written r p es a =
       kept = bytes_of p;
     }
 
-abbrev pub on_decoded : Decoded → List ℕ → List ℕ → List ℕ → List ℕ → List ℕ → Outcome
-on_decoded Bad i m es a b = refused wrong_state i m a b
-on_decoded (Good s) i m es a b =
+abbrev pub on_decoded : Option State → List ℕ → List ℕ → List ℕ → List ℕ → List ℕ → Outcome
+on_decoded None i m es a b = refused wrong_state i m a b
+on_decoded (Some s) i m es a b =
     cond (is_kept b)
     (cond (all_known es)
     (cond (leb (length es) (length a)) (written (run_of s m es) (proven_by (kept_of b) s m es) es a)

@@ -8,10 +8,10 @@ use native.Mathlib.Omega.{arith}
 use lib.Dec.{eqb}
 use lib.ListN.{length}
 use borrow.Author.Tests.{eqb-true, eqb-false, eq-eqb, ne_eqb}
+use Rattle.std.specs.Prelude.{Some, None}
 use Rattle.wire.proofs.Tests.{by_test}
 use Rattle.fm3130.specs.Event.{event_of}
 use Rattle.fm3130.specs.declared.State.{State}
-use Rattle.fm3130_image.specs.declared.Decoded.TheVariants.{Good, Bad}
 use Rattle.fm3130_image.proofs.Images.{settled_decode}
 use Rattle.fm3130_list.specs.Run.{answer_to, run_of}
 use Rattle.c_line.specs.Line.{pulls, pulls_of, told_by, line_of}
@@ -40,6 +40,6 @@ unfolding line_of
 every_line_told i m =
     record {
       memory = λ h. rw (ne_eqb (length m) 8192 h);
-      image = λ h n. rw (eq-eqb (length m) 8192 h, settled_decode i Bad n);
-      told = λ h s w. rw (eq-eqb (length m) 8192 h, settled_decode i (Good s) w) (told s m);
+      image = λ h n. rw (eq-eqb (length m) 8192 h, settled_decode i None n);
+      told = λ h s w. rw (eq-eqb (length m) 8192 h, settled_decode i (Some s) w) (told s m);
     }

@@ -5,9 +5,7 @@
 --   pulls, pulls_of                  whether the device pulls the next Clock's line; and the one after it
 --   told_by, line_of                  the same as one number, refusals too
 --   LineSettled                     the entry's contract
-use Rattle.std.specs.Prelude.{ℕ, ◌+◌, ◌%◌, ◌≡◌, Bool, cond, List, eqb, length}
-use Rattle.std.proofs.Math.Option.{Option, some, none}
-use Rattle.fm3130_companion.specs.declared.Companion as C
+use Rattle.std.specs.Prelude.{ℕ, ◌+◌, ◌%◌, ◌≡◌, Bool, cond, List, eqb, length, Option, Some, None}
 use Rattle.numbers.specs.Numbers.{wrong_memory}
 use Rattle.fm3130.specs.Chip.{memory_size}
 use Rattle.fm3130.specs.Event.{event_of}
@@ -39,8 +37,8 @@ abbrev pub told_by : Pulls → ℕ
 told_by p = cond p.next 0x100 0 + cond p.low 0x200 0 + cond p.high 0x400 0
 
 abbrev pub line_on : ℕ → Option State → List ℕ → ℕ
-line_on n none m = n
-line_on n (some s) m = told_by (pulls_of s m)
+line_on n None m = n
+line_on n (Some s) m = told_by (pulls_of s m)
 
 -- "Checked in the order of the numbers."
 unfoldable pub line_of : List ℕ → List ℕ → ℕ

@@ -27,18 +27,17 @@ use bus_image::places::{
     ADDRESS_HIGH_AT, ADDRESS_LOW_AT, BYTE_AT, CLOCKS_AT, COMPANION_ADDRESS_AT, PHASE_AT,
 };
 use fm3130::MEMORY_SIZE;
-use fm3130_accept::is_image;
-use fm3130_image::MEMORY;
+use fm3130_accept::admit;
 use fm3130_image::places::{CONTROL_AT, SECONDS_AT, SETUP_AT};
 use fm3130_image::read::calendar_at;
 use fm3130_registers::map::{CONTROL, W, WP0};
-use numbers::{WRONG_MEMORY, WRONG_STATE};
 use place_clock::send::fetched;
 use wire::bits::{push, sent_bit};
 use wire::storing::is_protected;
 
 // The answer's bits: the device pulls the next Clock's line; the one after it, if the next is low; if it is high. All
 // ways give the number itself, so that nothing is put together at the end.
+// Stays (C): fm3130_line answers in these bits, and the clause of pulls_of is told in them.
 const NEXT: u64 = 0x100;
 
 const LOW: u64 = 0x200;
@@ -51,10 +50,7 @@ const BOTH: u64 = LOW + HIGH;
 fn both(on: bool) -> u64
     ensures { result ≡ told_by (pulls_with false on on) }
 {
-    if on {
-        return BOTH;
-    }
-    0
+    if on { BOTH } else { 0 }
 }
 
 // A weight, where the bit of a byte that a clock sends is 0.
@@ -62,10 +58,7 @@ fn if_low(byte: u8, clocks: u8, weight: u64) -> u64
     requires { clocks ≤ 7 }
     ensures { (result ≡ cond (low_bit clocks byte) weight 0) × (result ≤ weight) }
 {
-    if sent_bit(byte, clocks) {
-        return 0;
-    }
-    weight
+    if sent_bit(byte, clocks) { 0 } else { weight }
 }
 
 // A byte that goes out, by its phase's number.
@@ -95,13 +88,11 @@ fn opened_pulls(image: &[u8], memory: &[u8], byte: u8) -> u64
         (lent memory.now (get_or image.now ADDRESS_HIGH_AT 0 * 256 + get_or image.now ADDRESS_LOW_AT 0))
         (companion_at image.now) → result ≡ told_by (pulls_with true f f) }
 {
-    if byte == 0xA1 {
-        return NEXT + if_low(fetched(image, memory, READ_MEMORY), 0, BOTH);
+    match byte {
+        0xA1 => NEXT + if_low(fetched(image, memory, READ_MEMORY), 0, BOTH),
+        0xD1 => NEXT + if_low(fetched(image, memory, READ_COMPANION), 0, BOTH),
+        _ => NEXT,
     }
-    if byte == 0xD1 {
-        return NEXT + if_low(fetched(image, memory, READ_COMPANION), 0, BOTH);
-    }
-    NEXT
 }
 
 // The address byte of a companion write, seven of its bits known: at most 0Eh with a last bit of 0, of 1.
@@ -109,13 +100,11 @@ fn pointer_pulls(byte: u8) -> u64
     requires { byte < 128 }
     ensures { result ≡ told_by (pulls_with false (leb (pushed byte false) 14) (leb (pushed byte true) 14)) }
 {
-    if byte < 7 {
-        return BOTH;
+    match byte {
+        0..7 => BOTH,
+        7 => LOW,
+        _ => 0,
     }
-    if byte == 7 {
-        return LOW;
-    }
-    0
 }
 
 // Whether a data byte for the companion is a write of 00h in which W falls while 02h to 08h hold no date and time that
@@ -124,17 +113,10 @@ fn loads_bad_date(image: &[u8], byte: u8) -> bool
     requires { length image.now ≡ image_size }
     ensures { result ≡ loads_bad_date (companion_at image.now) byte }
 {
-    if image[COMPANION_ADDRESS_AT] != CONTROL {
-        return false;
-    }
-    if has(byte, W) {
-        return false;
-    }
-    if !has(image[CONTROL_AT], W) {
-        return false;
-    }
-    let time = calendar_at(image, SECONDS_AT);
-    !time.is_valid()
+    image[COMPANION_ADDRESS_AT] == CONTROL
+        && !has(byte, W)
+        && has(image[CONTROL_AT], W)
+        && !calendar_at(image, SECONDS_AT).is_valid()
 }
 
 // A byte that comes in, all but its last bit known, by its phase's number: whether it will be acknowledged. A slave byte
@@ -188,11 +170,8 @@ pub fn pulls_of(image: &[u8], memory: &[u8]) -> u64
 pub extern "C" fn fm3130_line(image: &[u8], memory: &[u8]) -> u64
     ensures { LineSettled image.now memory.now result }
 {
-    if memory.len() != MEMORY {
-        return WRONG_MEMORY as u64;
+    match admit(image, memory) {
+        Ok(()) => pulls_of(image, memory),
+        Err(refusal) => u64::from(refusal),
     }
-    if !is_image(image) {
-        return WRONG_STATE as u64;
-    }
-    pulls_of(image, memory)
 }

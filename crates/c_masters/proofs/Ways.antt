@@ -7,6 +7,7 @@ use mathlib.Core.Bool.{Bool, true, false, cond}
 use mathlib.Core.List.{List, [], ◌∷◌}
 use lib.ListN.{length}
 use borrow.Author.Tests.{eq-eqb, ne_eqb}
+use Rattle.std.specs.Prelude.{Some, None}
 use Rattle.numbers.specs.Numbers.{accepted, wrong_memory, wrong_state, unknown_event, short_answers, not_held}
 use Rattle.fm3130.specs.Chip.{memory_size}
 use Rattle.fm3130.specs.declared.State.{State}
@@ -14,7 +15,6 @@ use Rattle.fm3130_image.specs.Image.{decode_of}
 use Rattle.fm3130_list.specs.Run.{RanThrough, all_known, outcome_of}
 use Rattle.c_run.specs.Run.{outcome_with}
 use Rattle.c_run.specs.declared.Ran.{Ran}
-use Rattle.fm3130_image.specs.declared.Decoded.TheVariants.{Good, Bad}
 use Rattle.fm3130_list.proofs.Runs.{outcome_short_answers, outcome_written, outcome_done}
 use Rattle.masters_hold.specs.Bus.{may_ask, may_call, master_number, standing_of}
 use Rattle.c_masters.specs.Outcome.{ask_of, AskSettled, CallOutcome, refused_call, ran_call, bus_after, call_on, is_good}
@@ -45,11 +45,11 @@ module _ (b : List ℕ) (x : ℕ) (i m es a : List ℕ) where
   call_wrong_memory h = rw (ne_eqb (length m) memory_size h)
 
   module _ (h : length m ≡ memory_size) where
-    pub call_wrong_image : decode_of i ≡ Bad → call_of b x i m es a ≡ refused_call wrong_state b i m a
+    pub call_wrong_image : decode_of i ≡ None → call_of b x i m es a ≡ refused_call wrong_state b i m a
     unfolding call_of
     call_wrong_image d = rw (eq-eqb (length m) memory_size h, d)
 
-    module _ (s : State) (d : decode_of i ≡ Good s) where
+    module _ (s : State) (d : decode_of i ≡ Some s) where
       pub call_unknown : standing_of b x ≡ Unknown → call_of b x i m es a ≡ refused_call wrong_state b i m a
       unfolding call_of
       call_unknown q = rw (eq-eqb (length m) memory_size h, d, q)

@@ -4,15 +4,14 @@
 --   AskOutcome, ask_on, ask_of                       an ask
 --   CallOutcome, refused_call, ran_call, call_on, call_of   a call
 --   AskSettled, CallSettled                        the entries' contracts
-use Rattle.std.specs.Prelude.{ℕ, ◌≡◌, Bool, true, false, cond, List, [], ◌∷◌, eqb, length}
+use Rattle.std.specs.Prelude.{ℕ, ◌≡◌, Bool, true, false, cond, List, [], ◌∷◌, eqb, length, Option, Some, None}
 use Rattle.numbers.specs.Numbers.{accepted, wrong_memory, wrong_state, unknown_event, not_held}
 use Rattle.fm3130.specs.Chip.{memory_size}
+use Rattle.fm3130.specs.declared.State.{State}
 use Rattle.fm3130_image.specs.Image.{decode_of}
 use Rattle.fm3130_list.specs.Run.{Outcome, refused, outcome_of, all_known}
 use Rattle.c_run.specs.Run.{outcome_with}
 use Rattle.c_run.specs.declared.Ran.{Ran}
-use Rattle.fm3130_image.specs.declared.Decoded.{Decoded}
-use Rattle.fm3130_image.specs.declared.Decoded.TheVariants.{Good, Bad}
 use Rattle.masters_hold.specs.Bus.{may_ask, may_call, master_number, standing_of, bus_freed}
 use Rattle.masters_hold.specs.declared.Standing.{Standing}
 use Rattle.masters_hold.specs.declared.Standing.TheVariants.{Known, Unknown}
@@ -57,9 +56,9 @@ call_on (Known g x) b i m es a =
     (refused_call unknown_event b i m a)
 
 -- Auxiliary: whether a well-formed state writes an image.
-abbrev pub is_good : Decoded → Bool
-is_good Bad = false
-is_good (Good s) = true
+abbrev pub is_good : Option State → Bool
+is_good None = false
+is_good (Some s) = true
 
 -- Numbers 1 and 2 first, then whether the lent byte and the master exist.
 unfoldable pub call_of : List ℕ → ℕ → List ℕ → List ℕ → List ℕ → List ℕ → CallOutcome

@@ -8,6 +8,7 @@ use mathlib.Core.List.{List}
 use native.Mathlib.Omega.{arith}
 use lib.ListN.{length, drop}
 use lib.Seq.{drop-append-add, drop-drop}
+use Rattle.std.specs.Prelude.{Option, Some, None}
 use Rattle.calendar.specs.Field.{in_field}
 use Rattle.calendar.specs.Month.{month_length}
 use Rattle.calendar.specs.Mend.{ranged_of, mended_of}
@@ -19,8 +20,6 @@ use Rattle.fm3130.specs.Power.{fresh}
 use Rattle.fm3130.specs.declared.State.{State}
 use Rattle.fm3130.proofs.Wellformed.{between_well_formed}
 use Rattle.fm3130_image.specs.Image.{image_of, decode_of}
-use Rattle.fm3130_image.specs.declared.Decoded.{Decoded}
-use Rattle.fm3130_image.specs.declared.Decoded.TheVariants.{Good, Bad}
 use Rattle.fm3130_image.proofs.Images.{decode_image}
 use Rattle.c_mend.specs.Changes.{change_of, changes_from, changed_count}
 use Rattle.c_mend.specs.Mend.{Outcome, mended_state, time_bytes, changes_in, written, mend_of}
@@ -66,10 +65,10 @@ list_fits s =
 pub always_enough : AlwaysEnough
 always_enough i ch h e = on (decode_of i) refl
   where
-    on : (d : Decoded) → decode_of i ≡ d → ⊥
-    on Bad f =
+    on : (d : Option State) → decode_of i ≡ d → ⊥
+    on None f =
         let n = sym (ap (λ (o : Outcome). o.number) (mend_wrong_image i ch f)) ∙ e in omega arith
-    on (Good s) f =
+    on (Some s) f =
         let fits = list_fits s in
         let n = sym (ap (λ (o : Outcome). o.number) (mend_written i ch s f (omega arith))) ∙ e in
         omega arith

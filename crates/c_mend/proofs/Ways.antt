@@ -8,13 +8,12 @@ use native.Mathlib.Omega.{arith}
 use lib.Dec.{leb, lit≤}
 use lib.ListN.{length, drop, take-append-drop}
 use borrow.Author.Tests.{le-leb, lt-leb, leb-true, leb-false}
+use Rattle.std.specs.Prelude.{Option, Some, None}
 use Rattle.wire.proofs.Tests.{by_test}
 use Rattle.numbers.specs.Numbers.{accepted, wrong_state, short_answers}
 use Rattle.fm3130.specs.declared.State.{State}
 use Rattle.fm3130_image.specs.Image.{image_of, decode_of}
 use Rattle.fm3130_image.specs.Reading.{WrittenBy}
-use Rattle.fm3130_image.specs.declared.Decoded.{Decoded}
-use Rattle.fm3130_image.specs.declared.Decoded.TheVariants.{Good, Bad}
 use Rattle.fm3130_image.proofs.Images.{image_decode}
 use Rattle.c_mend.specs.Changes.{changes_from, changed_count}
 use Rattle.c_mend.specs.Code.Changes.{WrittenAt}
@@ -22,11 +21,11 @@ use Rattle.c_mend.specs.Mend.{mended_state, time_bytes, changes_in, refused, wri
 use Rattle.c_mend.specs.declared.Mended.{Mended}
 
 module _ (i ch : List ℕ) where
-  pub mend_wrong_image : decode_of i ≡ Bad → mend_of i ch ≡ refused wrong_state i ch
+  pub mend_wrong_image : decode_of i ≡ None → mend_of i ch ≡ refused wrong_state i ch
   unfolding mend_of
   mend_wrong_image d = rw d
 
-  module _ (s : State) (d : decode_of i ≡ Good s) where
+  module _ (s : State) (d : decode_of i ≡ Some s) where
     pub mend_short : length ch < length (changes_in s) → mend_of i ch ≡ refused short_answers i ch
     unfolding mend_of
     mend_short h = rw (d, lt-leb (length (changes_in s)) (length ch) h)
@@ -62,9 +61,9 @@ pub data Way (i ch : List ℕ) : Type 0 where
 pub way : (i ch : List ℕ) → Way i ch
 way i ch = on (decode_of i) refl
   where
-    on : (d : Decoded) → decode_of i ≡ d → Way i ch
-    on Bad e = refused_by_lem wrong_state (lit≤ tt) (mend_wrong_image i ch e)
-    on (Good s) e =
+    on : (d : Option State) → decode_of i ≡ d → Way i ch
+    on None e = refused_by_lem wrong_state (lit≤ tt) (mend_wrong_image i ch e)
+    on (Some s) e =
         by_test (leb (length (changes_in s)) (length ch))
         (λ t. written_for s (image_decode i s e) (mend_written i ch s e (leb-true _ _ t)))
         (λ t. refused_by_lem short_answers (lit≤ tt) (mend_short i ch s e (leb-false _ _ t)))

@@ -7,8 +7,7 @@
 --   Outcome, refused, written   all that a caller can see; a refusal; an image put right
 --   on_decoded, mend_of           the tests in the order of the numbers
 --   MendSettled                 the entry's contract
-use Rattle.std.specs.Prelude.{ℕ, ◌≡◌, cond, List, ◌++◌, leb, length, drop}
-use Rattle.std.proofs.Math.Option.{Option, some, none}
+use Rattle.std.specs.Prelude.{ℕ, ◌≡◌, cond, List, ◌++◌, leb, length, drop, Option, Some, None}
 use Rattle.calendar.specs.Mend.{mended_of}
 use Rattle.fm3130_companion.specs.Change.{with_time}
 use Rattle.fm3130_companion.specs.declared.Companion.{Companion}
@@ -64,8 +63,8 @@ written s ch =
 
 -- Refused by 4 where fewer bytes are lent than the list has.
 abbrev pub on_decoded : ℕ → Option State → List ℕ → List ℕ → Outcome
-on_decoded n none i ch = refused n i ch
-on_decoded n (some s) i ch = cond (leb (length (changes_in s)) (length ch)) (written s ch) (refused short_answers i ch)
+on_decoded n None i ch = refused n i ch
+on_decoded n (Some s) i ch = cond (leb (length (changes_in s)) (length ch)) (written s ch) (refused short_answers i ch)
 
 -- "Refuses an image by number 2 .. and else": image and lent bytes to the whole outcome.
 unfoldable pub mend_of : List ℕ → List ℕ → Outcome

@@ -15,7 +15,6 @@ use crate::changes::{count_changes, write_changes};
 use fm3130::State;
 use fm3130_accept::decode;
 use fm3130_companion::{Companion, Registers};
-use fm3130_image::Decoded;
 use fm3130_image::write::write_image;
 use numbers::{ACCEPTED, SHORT_ANSWERS, WRONG_STATE};
 
@@ -102,7 +101,7 @@ pub extern "C" fn fm3130_mend(image: &mut [u8], changes: &mut [u8]) -> Mended
     ensures { MendSettled image.old changes.old result
         image.new changes.new }
 {
-    let Decoded::Good(state) = decode(image) else {
+    let Some(state) = decode(image) else {
         return refuse(WRONG_STATE);
     };
     let mended = mended_state(state);

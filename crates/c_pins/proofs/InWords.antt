@@ -8,6 +8,7 @@ use lib.Dec.{eqb, ltb}
 use lib.ListN.{length}
 use native.Mathlib.Omega.{arith}
 use borrow.Author.Tests.{ltb-false}
+use Rattle.std.specs.Prelude.{Option, Some, None}
 use Rattle.wire.proofs.Tests.{by_test}
 use Rattle.bits.specs.Weight.{has, only}
 use Rattle.fm3130_registers.specs.Map.{AF, AEN, CAL, ALSW}
@@ -20,8 +21,6 @@ use Rattle.fm3130.specs.Answer.{answer_byte, pin_shown}
 use Rattle.fm3130.specs.Chip.{memory_size}
 use Rattle.fm3130.specs.declared.State.{State}
 use Rattle.fm3130_image.specs.Image.{decode_of}
-use Rattle.fm3130_image.specs.declared.Decoded.{Decoded}
-use Rattle.fm3130_image.specs.declared.Decoded.TheVariants.{Good, Bad}
 use Rattle.numbers.specs.Numbers.{wrong_memory, wrong_state}
 use Rattle.pins_levels.specs.Look.{Readings, left, stayed, first_of, look_of, driven_of, hand_of, events_of}
 use Rattle.pins_levels.specs.Packed.{packed, unpacked, levels_of, readings_of, Small, Fits}
@@ -73,9 +72,9 @@ asked_small : (t : Token) (h : Held) → Small t → Small (asked fm3130_on t h)
 asked_small t h s = asks_small t _ _ _ (answer_byte h.state true) s (answer_small h.state)
 
 -- the first look
-begin_on_small : (d : Decoded) (m : List ℕ) (v : Seen) → Small (begin_on d m v)
-begin_on_small Bad m v = left_small (first_of v) wrong_state (first_small v) (omega arith)
-begin_on_small (Good s) m v = asked_small (first_of v) (held s m) (first_small v)
+begin_on_small : (d : Option State) (m : List ℕ) (v : Seen) → Small (begin_on d m v)
+begin_on_small None m v = left_small (first_of v) wrong_state (first_small v) (omega arith)
+begin_on_small (Some s) m v = asked_small (first_of v) (held s m) (first_small v)
 
 begin_small : (i m : List ℕ) (v : Seen) → Small (begin_of i m v)
 unfolding begin_of
@@ -88,9 +87,9 @@ outcome_by : (b : Bool) (x y : Outcome) → Small x.token → Small y.token → 
 outcome_by true x y p q = p
 outcome_by false x y p q = q
 
-decoded_small : (x : Decoded) (i m : List ℕ) (d : Due) → Small d.token → Small (on_decoded x i m d).token
-decoded_small Bad i m d s = left_small d.token wrong_state s (omega arith)
-decoded_small (Good x) i m d s = asked_small d.token (ran fm3130_on (held x m) (events_of d)) s
+decoded_small : (x : Option State) (i m : List ℕ) (d : Due) → Small d.token → Small (on_decoded x i m d).token
+decoded_small None i m d s = left_small d.token wrong_state s (omega arith)
+decoded_small (Some x) i m d s = asked_small d.token (ran fm3130_on (held x m) (events_of d)) s
 
 settle_small : (i m : List ℕ) (d : Due) → Small d.token → Small (settle_of i m d).token
 unfolding settle_of

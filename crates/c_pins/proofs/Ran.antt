@@ -8,6 +8,7 @@ use lib.Dec.{eqb}
 use lib.ListN.{length, get_or}
 use native.Mathlib.Omega.{arith}
 use borrow.Author.Tests.{le-ltb, lt-ltb}
+use Rattle.std.specs.Prelude.{Option, Some, None}
 use Rattle.wire.proofs.Tests.{by_test}
 use Rattle.wire.specs.declared.Side.TheVariants.{Memory, Companion}
 use Rattle.wire.specs.declared.Phase.{Phase}
@@ -22,8 +23,6 @@ use Rattle.bus_image.specs.Layout.{transfer_of}
 use Rattle.place_event.specs.Code.Answering.{Answered}
 use Rattle.fm3130_image.specs.Image.{image_of, candidate}
 use Rattle.fm3130_image.specs.Code.Accepting.{is_image}
-use Rattle.fm3130_image.specs.declared.Decoded.{Decoded}
-use Rattle.fm3130_image.specs.declared.Decoded.TheVariants.{Good, Bad}
 use Rattle.fm3130_image.proofs.Images.{candidate_of, decode_image, image_length}
 use Rattle.fm3130_image.proofs.Accepts.{image_well, image_written, image_not_read}
 use Rattle.c_line.specs.Wires.{is_eighth}
@@ -58,9 +57,9 @@ image_ok s w =
     by_test (is_image (image_of s)) (λ q. q)
     (λ q. absurd (false≢true (ap good (sym (image_not_read (image_of s) q) ∙ decode_image s w))))
   where
-    good : Decoded → Bool
-    good Bad = false
-    good (Good x) = true
+    good : Option State → Bool
+    good None = false
+    good (Some x) = true
 
 pub accepted_held : (i m : List ℕ) → Accepted i m → HeldOk (held (candidate i) m)
 accepted_held i m a = record { state = image_well i a.image; memory = a.memory }

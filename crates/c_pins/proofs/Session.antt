@@ -8,11 +8,11 @@ use lib.Dec.{eqb, ltb}
 use lib.ListN.{length}
 use native.Mathlib.Omega.{arith}
 use borrow.Author.Tests.{eq-eqb, ne_eqb, eqb-true, eqb-false}
+use Rattle.std.specs.Prelude.{Some, None}
 use Rattle.wire.proofs.Tests.{by_test}
 use Rattle.fm3130.specs.Chip.{memory_size}
 use Rattle.fm3130.specs.declared.State.{State}
 use Rattle.fm3130_image.specs.Image.{image_of, decode_of}
-use Rattle.fm3130_image.specs.declared.Decoded.TheVariants.{Good, Bad}
 use Rattle.fm3130_image.proofs.Images.{decode_image, image_decode}
 use Rattle.fm3130_list.specs.Run.{run_of}
 use Rattle.c_line.specs.Line.{pulls, pulls_after}
@@ -154,7 +154,7 @@ module _ (s : State) (m : List ℕ) (k : HeldOk (held s m)) (v : Seen) (c : Read
         lasted = a.lasted;
       }
 
-good_is : (x y : State) → Good x ≡ Good y → x ≡ y
+good_is : (x y : State) → Some x ≡ Some y → x ≡ y
 good_is x y e = cc
 
 every_image : (s : State) (m : List ℕ) (k : HeldOk (held s m)) (v : Seen) (c : Readings) (ds : List Deed)
@@ -169,12 +169,12 @@ every_image s m k v c ds h =
           (faithfully s m k v c (handed_in ds) (seen_in v ds) o ((shown fm3130_on lawful).faithful (held s m) v c ds n));
       driven =
           subst (λ (r : Outcome). r.token.scl ≡ false
-          → (x : State) → decode_of r.image ≡ Good x → r.token.pulling ≡ pulls x r.memory) (sym e)
+          → (x : State) → decode_of r.image ≡ Some x → r.token.pulling ≡ pulls x r.memory) (sym e)
           (λ q x g. (shown fm3130_on lawful).driven (held s m) v c ds n q
           ∙ ap (λ (y : State). pulls y o.state.memory)
           (good_is _ _ (sym (decode_image o.state.state (session_ok s m k v c ds).state) ∙ g)));
       early =
-          subst (λ (r : Outcome). r.token.pulse ≡ true → (x : State) → decode_of r.image ≡ Good x
+          subst (λ (r : Outcome). r.token.pulse ≡ true → (x : State) → decode_of r.image ≡ Some x
           → (look_of r.token Low).token.pulling ≡ pulls_after x r.memory (clock_of r.token.sda)) (sym e)
           (λ q x g. (shown fm3130_on lawful).early (held s m) v c ds n q
           ∙ ap (λ (y : State). pulls_after y o.state.memory (clock_of o.token.sda))
@@ -230,7 +230,7 @@ begin_short : (i m : List ℕ) (v : Seen) → (length m ≡ memory_size → ⊥)
 unfolding begin_of
 begin_short i m v h = rw (ne_eqb (length m) memory_size h)
 
-begin_bad : (i m : List ℕ) (v : Seen) → length m ≡ memory_size → decode_of i ≡ Bad → begin_of i m v ≡ left (first_of v) 2
+begin_bad : (i m : List ℕ) (v : Seen) → length m ≡ memory_size → decode_of i ≡ None → begin_of i m v ≡ left (first_of v) 2
 unfolding begin_of
 begin_bad i m v h g = rw (eq-eqb (length m) memory_size h, g)
 

@@ -6,13 +6,12 @@
 --   WireIsLine           the wire's level at a Clock is bit 0 of 01's answer to it
 --   TicksKeepEighth      a tick leaves an eighth Clock's line
 --   masked, Hidden       what the wires spell of a master's Clocks where the device hides their level; that it does no harm
-use Rattle.std.specs.Prelude.{ℕ, ◌≤◌, ◌≡◌, Bool, true, false, cond, not, ◌&&◌, List, [], ◌∷◌, ◌++◌, eqb, length}
+use Rattle.std.specs.Prelude.{ℕ, ◌≤◌, ◌≡◌, Bool, true, false, cond, not, ◌&&◌, List, [], ◌∷◌, ◌++◌, eqb, length, Some, None}
 use Rattle.fm3130.specs.Chip.{memory_size}
 use Rattle.fm3130.specs.Event.{event_of}
 use Rattle.fm3130.specs.Limits.{well_formed}
 use Rattle.fm3130.specs.declared.State.{State}
 use Rattle.fm3130_image.specs.Image.{image_of, decode_of}
-use Rattle.fm3130_image.specs.declared.Decoded.TheVariants.{Good, Bad}
 use Rattle.numbers.specs.Numbers.{wrong_memory, wrong_state}
 use Rattle.fm3130_list.specs.Run.{run_of, answer_to}
 use Rattle.c_line.specs.Line.{pulls, pulls_after}
@@ -60,7 +59,7 @@ pub record Faithfully (s : State) (m : List ℕ) (w : List Seen) (hs : List ℕ)
 
 -- Whether the device pulls the next Clock's line, by the state that lies in the image.
 abbrev pub pulls_in : List ℕ → List ℕ → Bool → Type 0
-pulls_in i m p = (s : State) → decode_of i ≡ Good s → p ≡ pulls s m
+pulls_in i m p = (s : State) → decode_of i ≡ Some s → p ≡ pulls s m
 
 -- Of every accepted image and memory, and every session, as long as the device has not left the bus.
 pub record OnWires (i m : List ℕ) (s : State) (v : Seen) (c : Readings) (ds : List Deed) : Type 0 where
@@ -69,19 +68,19 @@ pub record OnWires (i m : List ℕ) (s : State) (v : Seen) (c : Readings) (ds : 
       → pulls_in (session_on i m v c ds).image (session_on i m v c ds).memory (session_on i m v c ds).token.pulling
   -- at the fall of SCL, before the Clock is done, SDA is as the Clock will leave it
   pub early : (session_on i m v c ds).token.pulse ≡ true
-      → (x : State) → decode_of (session_on i m v c ds).image ≡ Good x
+      → (x : State) → decode_of (session_on i m v c ds).image ≡ Some x
       → (look_of (session_on i m v c ds).token Low).token.pulling
       ≡ pulls_after x (session_on i m v c ds).memory (clock_of (session_on i m v c ds).token.sda)
 
 abbrev pub EveryWaveform : Type 0
 EveryWaveform =
-    (i m : List ℕ) (s : State) → length m ≡ memory_size → decode_of i ≡ Good s → (v : Seen) (c : Readings) (ds : List Deed)
+    (i m : List ℕ) (s : State) → length m ≡ memory_size → decode_of i ≡ Some s → (v : Seen) (c : Readings) (ds : List Deed)
     → (session_on i m v c ds).token.number ≡ 0 → OnWires i m s v c ds
 
 -- A look that sees SCL high never changes what SDA does, unless the device leaves the bus.
 abbrev pub StillHigh : Type 0
 StillHigh =
-    (i m : List ℕ) (s : State) → length m ≡ memory_size → decode_of i ≡ Good s → (v : Seen) (c : Readings) (ds : List Deed)
+    (i m : List ℕ) (s : State) → length m ≡ memory_size → decode_of i ≡ Some s → (v : Seen) (c : Readings) (ds : List Deed)
     → (d : Bool) (a b : Readings) → (session_on i m v c (saw (High d) a b ∷ ds)).token.number ≡ 0
     → (session_on i m v c (saw (High d) a b ∷ ds)).token.pulling ≡ (session_on i m v c ds).token.pulling
 
@@ -100,12 +99,12 @@ abbrev pub Refused : Type 0
 Refused =
     (i m : List ℕ) (v : Seen) (c : Readings) (ds : List Deed)
     → ((length m ≡ memory_size → ⊥) → NotBegun i m v c ds wrong_memory)
-    × (length m ≡ memory_size → decode_of i ≡ Bad → NotBegun i m v c ds wrong_state)
+    × (length m ≡ memory_size → decode_of i ≡ None → NotBegun i m v c ds wrong_state)
 
 -- Where nothing is handed in, it is the list run on what the looks spell.
 abbrev pub LooksOnly : Type 0
 LooksOnly =
-    (i m : List ℕ) (s : State) → length m ≡ memory_size → decode_of i ≡ Good s → (v : Seen) (c : Readings) (ds : List Deed)
+    (i m : List ℕ) (s : State) → length m ≡ memory_size → decode_of i ≡ Some s → (v : Seen) (c : Readings) (ds : List Deed)
     → handed_in ds ≡ [] → (session_on i m v c ds).token.number ≡ 0
     → ((session_on i m v c ds).image ≡ image_of (run_of s m (spelt (seen_in v ds))).state)
     × ((session_on i m v c ds).memory ≡ (run_of s m (spelt (seen_in v ds))).memory)

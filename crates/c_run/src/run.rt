@@ -5,17 +5,17 @@ ghost use Rattle.std.specs.Prelude.{◌≡◌, true, ◌≤◌, length};
 ghost use Rattle.fm3130_image.specs.Image.{candidate};
 ghost use Rattle.place_clock.specs.Code.Clocking.{Accepted};
 ghost use Rattle.fm3130_list.specs.Run.{all_known, RanThrough};
-ghost use Rattle.c_run.specs.Run.{RunSettled};
+ghost use Rattle.numbers.specs.Refusal.{number_told};
+ghost use Rattle.c_run.specs.Run.{ran_told, RunSettled};
 ghost use Rattle.c_run.specs.Fresh.{FreshSettled};
 
 use crate::Ran;
-use bus_image::bytes::copy;
 use fm3130::State;
-use fm3130_accept::is_image;
-use fm3130_image::write::image_of;
-use fm3130_image::{LENGTH, MEMORY};
+use fm3130_accept::admit;
+use fm3130_image::LENGTH;
+use fm3130_image::write::write_image;
 use fm3130_list::all_known;
-use numbers::{ACCEPTED, SHORT_ANSWERS, UNKNOWN_EVENT, WRONG_MEMORY, WRONG_STATE};
+use numbers::{Refusal, number_told};
 use place_list::stride;
 
 // All events, from an accepted image. The answers go to the front of their buffer.
@@ -25,6 +25,7 @@ pub fn run_events(image: &mut [u8], memory: &mut [u8], events: &[u8], answers: &
     ensures { RanThrough (candidate image.old) memory.old events.now
         answers.old image.new memory.new answers.new }
 {
+    // Stays (plain): a stride is one event or a row of them, so no iterator goes over the events one by one.
     let mut i = 0;
     while i < events.len() {
         i = stride(image, memory, events, answers, i);
@@ -36,9 +37,30 @@ pub fn refuse(number: u8) -> Ran
     ensures { result ≡ record { number = number; count = 0 } }
 {
     Ran {
-        number: number as u64,
+        number: u64::from(number),
         count: 0,
     }
+}
+
+// The list run's tests in the order of their numbers, with nothing written before the last; and how many events were done.
+fn run_list(
+    image: &mut [u8],
+    memory: &mut [u8],
+    events: &[u8],
+    answers: &mut [u8],
+) -> Result<u64, Refusal>
+    ensures { RunSettled image.old memory.old events.now answers.old
+        (ran_told result) image.new memory.new answers.new }
+{
+    admit(image, memory)?;
+    if !all_known(events) {
+        return Err(Refusal::UnknownEvent);
+    }
+    if answers.len() < events.len() {
+        return Err(Refusal::ShortAnswers);
+    }
+    run_events(image, memory, events, answers);
+    Ok(events.len() as u64)
 }
 
 // The list run: refused by the first number that fits, with nothing written; or every event done, its answer written,
@@ -53,34 +75,24 @@ pub extern "C" fn fm3130_run(
     ensures { RunSettled image.old memory.old events.now answers.old
         result image.new memory.new answers.new }
 {
-    if memory.len() != MEMORY {
-        return refuse(WRONG_MEMORY);
-    }
-    if !is_image(image) {
-        return refuse(WRONG_STATE);
-    }
-    if !all_known(events) {
-        return refuse(UNKNOWN_EVENT);
-    }
-    if answers.len() < events.len() {
-        return refuse(SHORT_ANSWERS);
-    }
-    run_events(image, memory, events, answers);
-    Ran {
-        number: ACCEPTED as u64,
-        count: events.len() as u64,
-    }
+    Ran::from(run_list(image, memory, events, answers))
 }
 
-// Writes the fresh state's image, where the buffer has 64 bytes; any other is left as it is.
+// Writes the fresh state's image, where the buffer has 64 bytes.
+fn write_fresh(image: &mut [u8]) -> Result<(), Refusal>
+    ensures { FreshSettled image.old (number_told result) image.new }
+{
+    if image.len() != LENGTH {
+        return Err(Refusal::WrongState);
+    }
+    write_image(State::fresh(), image);
+    Ok(())
+}
+
+// The fresh image; a buffer that has not 64 bytes is left as it is.
 #[unsafe(no_mangle)]
 pub extern "C" fn fm3130_fresh(image: &mut [u8]) -> u64
     ensures { FreshSettled image.old result image.new }
 {
-    if image.len() != LENGTH {
-        return WRONG_STATE as u64;
-    }
-    let written = image_of(State::fresh());
-    copy(&written, image);
-    ACCEPTED as u64
+    number_told(write_fresh(image))
 }

@@ -19,6 +19,5 @@ pub extern "C" fn fm3130_run_number(
     ensures { NumberSettled image.old memory.old events.now answers.old
         result image.new memory.new answers.new }
 {
-    let ran = fm3130_run(image, memory, events, answers);
-    ran.number
+    fm3130_run(image, memory, events, answers).number
 }

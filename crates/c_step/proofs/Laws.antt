@@ -9,6 +9,7 @@ use native.Mathlib.Omega.{arith}
 use lib.Dec.{leb, eqb}
 use lib.ListN.{length, take}
 use borrow.Author.Tests.{eqb-true, eqb-false, leb-true, leb-false, le-leb}
+use Rattle.std.specs.Prelude.{Option, Some, None}
 use Rattle.wire.proofs.Tests.{by_test}
 use Rattle.calendar.specs.Highest.{changed_of}
 use Rattle.calendar.specs.declared.Rolled.TheVariants.{Nothing}
@@ -25,8 +26,6 @@ use Rattle.fm3130_image.specs.Image.{decode_of}
 use Rattle.bus_list.specs.Run as list
 use Rattle.fm3130_list.specs.Run.{run_of, all_known}
 use Rattle.fm3130_list.specs.Run as Run
-use Rattle.fm3130_image.specs.declared.Decoded.{Decoded}
-use Rattle.fm3130_image.specs.declared.Decoded.TheVariants.{Good, Bad}
 use Rattle.fm3130_list.proofs.Runs.{outcome_written}
 use Rattle.c_step.specs.Single.{Outcome, single_of}
 use Rattle.c_step.specs.Laws.{AsTheListRun, SilentExactly, NothingExactly, SaysWhatChanged}
@@ -36,7 +35,7 @@ use Rattle.c_step.proofs.Ways.{single_wrong_memory, single_wrong_image, single_u
 record Accepted (i m : List ℕ) (e : ℕ) (t : List ℕ) : Type 0 where
   state : State
   memory : length m ≡ memory_size
-  image : decode_of i ≡ Good state
+  image : decode_of i ≡ Some state
   event : e ≤ 7
   room : 2 ≤ length t
 
@@ -49,9 +48,9 @@ accepted_by i m e t h =
     refuted : (n : ℕ) → (single_of i m e t).number ≡ n + 1 → Accepted i m e t
     refuted n q = let z : n + 1 ≡ 0 = sym q ∙ h in absurd (omega arith)
 
-    on_image : length m ≡ memory_size → (d : Decoded) → decode_of i ≡ d → Accepted i m e t
-    on_image l Bad q = refuted 1 (ap (λ (o : Outcome). o.number) (single_wrong_image i m e t l q))
-    on_image l (Good s) q =
+    on_image : length m ≡ memory_size → (d : Option State) → decode_of i ≡ d → Accepted i m e t
+    on_image l None q = refuted 1 (ap (λ (o : Outcome). o.number) (single_wrong_image i m e t l q))
+    on_image l (Some s) q =
         by_test (leb e 7)
         (λ k. by_test (leb 2 (length t))
         (λ r. record { state = s; memory = l; image = q; event = leb-true _ _ k; room = leb-true _ _ r })

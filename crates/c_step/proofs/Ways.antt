@@ -7,12 +7,12 @@ use mathlib.Core.List.{List, [], ◌∷◌}
 use native.Mathlib.Omega.{arith}
 use lib.ListN.{length, drop, set}
 use borrow.Author.Tests.{eq-eqb, ne_eqb, le-leb, lt-leb}
+use Rattle.std.specs.Prelude.{Some, None}
 use Rattle.numbers.specs.Numbers.{wrong_memory, wrong_state, unknown_event, short_answers}
 use Rattle.fm3130.specs.Chip.{memory_size}
 use Rattle.fm3130.specs.Event.{event_of, rolled_in}
 use Rattle.fm3130.specs.declared.State.{State}
 use Rattle.fm3130_image.specs.Image.{decode_of}
-use Rattle.fm3130_image.specs.declared.Decoded.TheVariants.{Good, Bad}
 use Rattle.c_step.specs.Single.{refused, answered, single_of, SingleSettled}
 
 module _ (i m : List ℕ) (e : ℕ) (t : List ℕ) where
@@ -21,11 +21,11 @@ module _ (i m : List ℕ) (e : ℕ) (t : List ℕ) where
   single_wrong_memory h = rw (ne_eqb (length m) memory_size h)
 
   module _ (h : length m ≡ memory_size) where
-    pub single_wrong_image : decode_of i ≡ Bad → single_of i m e t ≡ refused wrong_state i m t
+    pub single_wrong_image : decode_of i ≡ None → single_of i m e t ≡ refused wrong_state i m t
     unfolding single_of
     single_wrong_image d = rw (eq-eqb (length m) memory_size h, d)
 
-    module _ (s : State) (d : decode_of i ≡ Good s) where
+    module _ (s : State) (d : decode_of i ≡ Some s) where
       pub single_unknown_event : 7 < e → single_of i m e t ≡ refused unknown_event i m t
       unfolding single_of
       single_unknown_event l = rw (eq-eqb (length m) memory_size h, d, lt-leb e 7 l)

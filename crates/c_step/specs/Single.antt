@@ -4,8 +4,7 @@
 --   Outcome, refused, told     all that a caller can see; a refusal; an answered event
 --   on_decoded, single_of        the tests in the order of the numbers
 --   SingleSettled              the entry's contract
-use Rattle.std.specs.Prelude.{ℕ, ◌≡◌, cond, List, ◌∷◌, leb, eqb, length, drop}
-use Rattle.std.proofs.Math.Option.{Option, some, none}
+use Rattle.std.specs.Prelude.{ℕ, ◌≡◌, cond, List, ◌∷◌, leb, eqb, length, drop, Option, Some, None}
 use Rattle.calendar.specs.Highest.{rolled_number}
 use Rattle.calendar.specs.declared.Rolled.{Rolled}
 use Rattle.numbers.specs.Numbers.{accepted, wrong_memory, unknown_event, short_answers}
@@ -39,8 +38,8 @@ answered d w t =
 
 -- Refused by 3 where the event is above 7, by 4 where fewer than two bytes are lent for what is told.
 abbrev pub on_decoded : ℕ → Option State → List ℕ → List ℕ → ℕ → List ℕ → Outcome
-on_decoded n none i m e t = refused n i m t
-on_decoded n (some s) i m e t =
+on_decoded n None i m e t = refused n i m t
+on_decoded n (Some s) i m e t =
     cond (leb e 7)
     (cond (leb 2 (length t)) (answered (event_of s m e) (rolled_in s e) t) (refused short_answers i m t))
     (refused unknown_event i m t)

@@ -1,6 +1,6 @@
 -- SPDX-License-Identifier: Apache-2.0
 -- The viewer's numbers: the ways through its tests, in literal numbers.
-use Prim.Native.Nat.{ℕ, ◌+◌, ◌≤◌}
+use Prim.Native.Nat.{ℕ, ◌+◌}
 use mathlib.Core.Path.{◌≡◌, ◌∙◌}
 use mathlib.Core.List.{List}
 use native.Mathlib.Omega.{arith}

@@ -5,9 +5,15 @@ ghost use Rattle.fm3130_registers.specs.Map.{COUNT};
 ghost use Rattle.fm3130.specs.Chip.{memory_size};
 ghost use Rattle.c_view.specs.View.{ViewNumberSettled, ViewSettled};
 
-use crate::chosen::{number_of, part_of};
+use crate::chosen::{Viewed, Window};
 use fm3130::MEMORY_SIZE;
 use fm3130_registers::map::COUNT;
+
+// What is seen of it: its memory, and its 15 registers.
+const VIEWED: Viewed = Viewed {
+    size: MEMORY_SIZE,
+    count: COUNT,
+};
 
 // The viewer of the FM3130.
 pub fn view<'a>(
@@ -19,22 +25,16 @@ pub fn view<'a>(
 ) -> &'a [u8]
     ensures { ViewSettled memory_size COUNT image.entry memory.entry selector start length result }
 {
-    part_of(MEMORY_SIZE, COUNT, image, memory, selector, start, length)
+    let window = Window::new(u64::from(selector), start, length);
+    VIEWED.view(image, memory, window)
 }
 
 // Its number on the same inputs.
 pub fn view_number(image: &[u8], memory: &[u8], selector: u8, start: usize, length: usize) -> u8
     ensures { ViewNumberSettled memory_size COUNT image.now memory.now selector start length result }
 {
-    number_of(
-        MEMORY_SIZE,
-        COUNT,
-        image,
-        memory,
-        selector as u64,
-        start as u64,
-        length as u64,
-    )
+    let window = Window::new(u64::from(selector), start, length);
+    VIEWED.number(image, memory, window)
 }
 
 // The same for C.
@@ -48,5 +48,6 @@ pub extern "C" fn fm3130_view_number(
 ) -> u64
     ensures { ViewNumberSettled memory_size COUNT image.now memory.now selector start length result }
 {
-    number_of(MEMORY_SIZE, COUNT, image, memory, selector, start, length) as u64
+    let window = Window::new(selector, start as usize, length as usize);
+    u64::from(VIEWED.number(image, memory, window))
 }

@@ -6,9 +6,20 @@ ghost use Rattle.fm31.specs.Chip.{size_of};
 ghost use Rattle.fm31.specs.declared.Size.TheVariants.{Kb64, Kb256};
 ghost use Rattle.c_view.specs.View.{ViewNumberSettled, ViewSettled};
 
-use crate::chosen::{number_of, part_of};
+use crate::chosen::{Viewed, Window};
 use fm31::{KB64, KB256};
 use fm31_counters::map::COUNT;
+
+// What is seen of each: its memory, and the same 16 registers.
+const VIEWED_64KB: Viewed = Viewed {
+    size: KB64,
+    count: COUNT,
+};
+
+const VIEWED_256KB: Viewed = Viewed {
+    size: KB256,
+    count: COUNT,
+};
 
 // The viewer of the 64Kb part.
 pub fn view_64kb<'a>(
@@ -20,7 +31,8 @@ pub fn view_64kb<'a>(
 ) -> &'a [u8]
     ensures { ViewSettled (size_of Kb64) COUNT image.entry memory.entry selector start length result }
 {
-    part_of(KB64, COUNT, image, memory, selector, start, length)
+    let window = Window::new(u64::from(selector), start, length);
+    VIEWED_64KB.view(image, memory, window)
 }
 
 // The viewer of the 256Kb part.
@@ -33,7 +45,8 @@ pub fn view_256kb<'a>(
 ) -> &'a [u8]
     ensures { ViewSettled (size_of Kb256) COUNT image.entry memory.entry selector start length result }
 {
-    part_of(KB256, COUNT, image, memory, selector, start, length)
+    let window = Window::new(u64::from(selector), start, length);
+    VIEWED_256KB.view(image, memory, window)
 }
 
 // The viewer's number for C, of the 64Kb part.
@@ -47,7 +60,8 @@ pub extern "C" fn fm3164_view_number(
 ) -> u64
     ensures { ViewNumberSettled (size_of Kb64) COUNT image.now memory.now selector start length result }
 {
-    number_of(KB64, COUNT, image, memory, selector, start, length) as u64
+    let window = Window::new(selector, start as usize, length as usize);
+    u64::from(VIEWED_64KB.number(image, memory, window))
 }
 
 // The viewer's number for C, of the 256Kb part.
@@ -61,5 +75,6 @@ pub extern "C" fn fm31256_view_number(
 ) -> u64
     ensures { ViewNumberSettled (size_of Kb256) COUNT image.now memory.now selector start length result }
 {
-    number_of(KB256, COUNT, image, memory, selector, start, length) as u64
+    let window = Window::new(selector, start as usize, length as usize);
+    u64::from(VIEWED_256KB.number(image, memory, window))
 }

@@ -5,12 +5,10 @@
 --   stands_in                   an entry by itself
 --   clashes                    an entry with an earlier one
 --   is_sound                    an entry of the table
-use Rattle.std.specs.Prelude.{ℕ, zero, suc, ◌+◌, ◌*◌, Bool, true, false, cond, not, ◌&&◌, ◌||◌, List, leb, ltb, eqb, length, take, drop, get_or}
+use Rattle.std.specs.Prelude.{ℕ, zero, suc, ◌+◌, ◌*◌, Bool, true, false, cond, not, ◌&&◌, ◌||◌, List, leb, ltb, eqb, length, take, drop, get_or, is_some}
 use Rattle.fm3130.specs.Chip.{memory_size}
 use Rattle.fm3130_image.specs.Image.{decode_of}
 use Rattle.fm3130_list.specs.Run.{all_known}
-use Rattle.fm3130_image.specs.declared.Decoded.{Decoded}
-use Rattle.fm3130_image.specs.declared.Decoded.TheVariants.{Good, Bad}
 use Rattle.capture_table.specs.declared.Entry.{Entry}
 
 -- "Starting image, memory, events, answers."
@@ -58,14 +56,10 @@ unfoldable pub overlap : ℕ → ℕ → ℕ → ℕ → Bool
 overlap from size from₂ size₂ =
     ltb 0 size && ltb 0 size₂ && ltb from (from₂ + size₂) && ltb from₂ (from + size)
 
-abbrev pub is_state : Decoded → Bool
-is_state (Good s) = true
-is_state Bad = false
-
 -- No "part that 01 refuses": an image by number 2, memory by number 1, events by number 3.
 unfoldable pub is_accepted : ℕ → List ℕ → Bool
 is_accepted kind body =
-    cond (eqb kind image_kind) (is_state (decode_of body))
+    cond (eqb kind image_kind) (is_some (decode_of body))
     (cond (eqb kind memory_kind) (eqb (length body) memory_size)
     (cond (eqb kind events_kind) (all_known body) true))
 

@@ -6,8 +6,8 @@ ghost use Rattle.capture_table.specs.Sections.{first_faulty};
 
 use crate::entries::{ENTRY, entry_at};
 use crate::{ANSWERS_KIND, EVENTS_KIND, Entry, IMAGE_KIND, MEMORY_KIND};
-use fm3130_accept::decode;
-use fm3130_image::{Decoded, MEMORY};
+use fm3130_accept::is_image;
+use fm3130_image::MEMORY;
 use fm3130_list::all_known;
 
 // The bytes of the table.
@@ -35,10 +35,7 @@ fn accepts(kind: u32, body: &[u8]) -> bool
     ensures { result ≡ is_accepted kind body.now }
 {
     if kind == IMAGE_KIND {
-        return match decode(body) {
-            Decoded::Good(_) => true,
-            Decoded::Bad => false,
-        };
+        return is_image(body);
     }
     if kind == MEMORY_KIND {
         return body.len() == MEMORY;

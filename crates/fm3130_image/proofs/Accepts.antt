@@ -9,14 +9,14 @@ use mathlib.Core.List.{List, [], ◌∷◌, ◌++◌}
 use native.Mathlib.Omega.{arith}
 use lib.ListN.{length, drop, get_or}
 use lib.Seq.{drop-cons}
-use Rattle.wire.proofs.Tests.{and_split}
+use Rattle.std.specs.Prelude.{Some, None, is_some}
+use Rattle.wire.proofs.Tests.{by_test, and_split}
 use Rattle.fm3130.specs.Limits.{well_formed}
 use Rattle.fm3130.specs.declared.State.{State}
 use Rattle.bus_image.specs.Bytes.{same_bytes}
 use Rattle.bus_image.proofs.Lists.{same_lengths, same_equal}
 use Rattle.fm3130_image.specs.Image.{image_size, image_of, candidate, decode_of}
 use Rattle.fm3130_image.specs.Code.Accepting.{is_image, the_end}
-use Rattle.fm3130_image.specs.declared.Decoded.TheVariants.{Good, Bad}
 use Rattle.fm3130_image.proofs.Images.{image_length, image_decode}
 
 -- so many bytes of a list from a place on, by their places
@@ -38,7 +38,7 @@ pub image_end : (s : State) → drop 30 (image_of s) ≡ the_end
 unfolding image_of
 image_end s = refl
 
-pub decoded_end : (i : List ℕ) (s : State) → decode_of i ≡ Good s → drop 30 i ≡ the_end
+pub decoded_end : (i : List ℕ) (s : State) → decode_of i ≡ Some s → drop 30 i ≡ the_end
 decoded_end i s d = rw (image_decode i s d).1 at (image_end s)
 
 pub image_not_long : (i : List ℕ) → (length i ≡ image_size → ⊥) → is_image i ≡ false
@@ -57,13 +57,19 @@ module _ (i : List ℕ) (h : is_image i ≡ true) where
   unfolding is_image
   image_written = same_equal _ _ (and_split (well_formed (candidate i)) (same_bytes (image_of (candidate i)) i) h).1
 
-  pub image_read : decode_of i ≡ Good (candidate i)
+  pub image_read : decode_of i ≡ Some (candidate i)
   unfolding is_image decode_of
   image_read = rw h
 
   pub image_long : length i ≡ image_size
   image_long = ap length (sym image_written) ∙ image_length (candidate i)
 
-pub image_not_read : (i : List ℕ) → is_image i ≡ false → decode_of i ≡ Bad
+pub image_not_read : (i : List ℕ) → is_image i ≡ false → decode_of i ≡ None
 unfolding is_image decode_of
 image_not_read i h = rw h
+
+-- so the test says whether there is a state to read
+pub image_some : (i : List ℕ) → is_image i ≡ is_some (decode_of i)
+image_some i = by_test (is_image i)
+    (λ t. t ∙ sym (ap is_some (image_read i t)))
+    (λ t. t ∙ sym (ap is_some (image_not_read i t)))

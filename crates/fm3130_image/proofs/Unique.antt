@@ -4,10 +4,10 @@
 use mathlib.Core.Path.{◌≡◌, sym, ◌∙◌}
 use mathlib.Core.List.{List}
 use Prim.Native.Nat.{ℕ}
+use Rattle.std.specs.Prelude.{Option}
 use Rattle.fm3130.specs.declared.State.{State}
 use Rattle.fm3130_image.specs.Image.{image_of}
 use Rattle.fm3130_image.specs.Reading.{DecodeSettled}
-use Rattle.fm3130_image.specs.declared.Decoded.{Decoded}
 use Rattle.fm3130_image.proofs.Images.{settled_decode}
 
 -- what equals one definition is one thing
@@ -19,5 +19,5 @@ pub image_unique : (s : State) (i i₂ : List ℕ) → i ≡ image_of s → i₂
 image_unique s i i₂ p q = unique p q
 
 -- reading an image
-pub decode_unique : (i : List ℕ) (r r₂ : Decoded) → DecodeSettled i r → DecodeSettled i r₂ → r ≡ r₂
+pub decode_unique : (i : List ℕ) (r r₂ : Option State) → DecodeSettled i r → DecodeSettled i r₂ → r ≡ r₂
 decode_unique i r r₂ p q = sym (settled_decode i r p) ∙ settled_decode i r₂ q

@@ -3,7 +3,7 @@
 -- the rest is the team's layout, in docs/. Image and state go both ways without loss."). docs/IMAGE.md has the table.
 --   image_size, mark, image_of          the 64 bytes that a state writes
 --   candidate, decode_of               the state that an image holds, if a well-formed state writes it
-use Rattle.std.specs.Prelude.{ℕ, ◌+◌, ◌*◌, ◌/◌, ◌%◌, cond, ◌&&◌, List, [], ◌∷◌, ◌++◌, get_or, replicate}
+use Rattle.std.specs.Prelude.{ℕ, ◌+◌, ◌*◌, ◌/◌, ◌%◌, cond, ◌&&◌, List, [], ◌∷◌, ◌++◌, get_or, replicate, Option, Some, None}
 use Rattle.calendar.specs.declared.Calendar.{Calendar}
 use Rattle.fm3130_companion.specs.Registers.{register_bytes, registers_of}
 use Rattle.fm3130_companion.specs.declared.Companion.{Companion}
@@ -14,8 +14,6 @@ use Rattle.bus_image.specs.Layout.{power_number, power_of, transfer_of, phase_of
 use Rattle.bus_image.specs.Places.{COMPANION_ADDRESS_AT, ADDRESS_HIGH_AT, ADDRESS_LOW_AT, SUPPLIES_AT}
 use Rattle.bus_image.specs.Places.{PHASE_AT, CLOCKS_AT, BYTE_AT, FIRST_AT}
 use Rattle.fm3130_image.specs.Places.{CORE_SECONDS_AT}
-use Rattle.fm3130_image.specs.declared.Decoded.{Decoded}
-use Rattle.fm3130_image.specs.declared.Decoded.TheVariants.{Good, Bad}
 
 -- "State image (64 bytes)."
 abbrev pub image_size : ℕ
@@ -70,5 +68,5 @@ candidate i =
     }
 
 -- The state that an image holds: the candidate, if it is well-formed and writes this very image.
-unfoldable pub decode_of : List ℕ → Decoded
-decode_of i = cond (well_formed (candidate i) && same_bytes (image_of (candidate i)) i) (Good (candidate i)) Bad
+unfoldable pub decode_of : List ℕ → Option State
+decode_of i = cond (well_formed (candidate i) && same_bytes (image_of (candidate i)) i) (Some (candidate i)) None

@@ -5,14 +5,11 @@
 --   WrittenBy                  a well-formed state writes an image
 --   Says, decoded_says          each answer's line of 01's table: its number, when it is given, what is returned
 --   DecodeSettled              the contract of `decode`
-use Rattle.std.specs.Prelude.{ℕ, ◌≡◌, true, List}
-use Rattle.std.proofs.Math.Option.{Option, some, none}
+use Rattle.std.specs.Prelude.{ℕ, ◌≡◌, true, List, Option, Some, None}
 use Rattle.numbers.specs.Numbers.{accepted, wrong_state}
 use Rattle.fm3130.specs.Limits.{well_formed}
 use Rattle.fm3130.specs.declared.State.{State}
 use Rattle.fm3130_image.specs.Image.{image_of}
-use Rattle.fm3130_image.specs.declared.Decoded.{Decoded}
-use Rattle.fm3130_image.specs.declared.Decoded.TheVariants.{Good, Bad}
 
 -- Auxiliary: the image is the one that the state, a well-formed one, writes.
 abbrev pub WrittenBy : List ℕ → State → Type 0
@@ -26,10 +23,10 @@ pub record Says : Type 1 where
   pub returned : Option State
 
 -- Case by case: 0, "none below", with the state that writes the image; 2, "no well-formed state writes it", with none.
-abbrev pub decoded_says : Decoded → Says
-decoded_says (Good s) = record { number = accepted; given = λ i. WrittenBy i s; returned = some s }
-decoded_says Bad = record { number = wrong_state; given = λ i. (s : State) → WrittenBy i s → ⊥; returned = none }
+abbrev pub decoded_says : Option State → Says
+decoded_says (Some s) = record { number = accepted; given = λ i. WrittenBy i s; returned = Some s }
+decoded_says None = record { number = wrong_state; given = λ i. (s : State) → WrittenBy i s → ⊥; returned = None }
 
 -- The contract of `decode`: an answer is given exactly when its line says so.
-abbrev pub DecodeSettled : List ℕ → Decoded → Type 0
+abbrev pub DecodeSettled : List ℕ → Option State → Type 0
 DecodeSettled i r = (decoded_says r).given i

@@ -6,7 +6,7 @@
 // write   a state's image, whole or over another's
 #![tactic(auto)]
 
-use fm3130::{MEMORY_SIZE, State};
+use fm3130::MEMORY_SIZE;
 
 pub mod places;
 pub mod read;
@@ -17,10 +17,3 @@ pub const LENGTH: usize = 64;
 
 // The bytes of memory, as a length.
 pub const MEMORY: usize = MEMORY_SIZE as usize;
-
-// What reading an image gives: the well-formed state that writes it, or none.
-#[derive(Clone, Copy)]
-pub enum Decoded {
-    Good(State),
-    Bad,
-}

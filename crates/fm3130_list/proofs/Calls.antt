@@ -4,10 +4,10 @@ use Prim.Native.Nat.{ℕ, ◌≤◌}
 use mathlib.Core.Path.{◌≡◌}
 use mathlib.Core.List.{List}
 use lib.ListN.{length}
+use Rattle.std.specs.Prelude.{Some}
 use Rattle.bus_list.proofs.Calls as list
 use Rattle.fm3130.specs.declared.State.{State}
 use Rattle.fm3130_image.specs.Image.{decode_of}
-use Rattle.fm3130_image.specs.declared.Decoded.TheVariants.{Good}
 use Rattle.fm3130_list.specs.Run.{Ended, run_of}
 use Rattle.fm3130_list.specs.Calls.{Left, Leaves, OneCall, CallsAsOne, OneAsCalls}
 use Rattle.fm3130_list.proofs.Runs.{list30, reads30, keeps30}
@@ -22,11 +22,11 @@ module _ (i m es : List ℕ) (l : Left) (h : Leaves i m es l) where
   pub leaves_accepted : (a : List ℕ) → length es ≤ length a → Accepted i m es a
   leaves_accepted = list.leaves_accepted list30 reads30 keeps30 i m es l h
 
-  pub leaves_run : (s : State) → decode_of i ≡ Good s → l ≡ left_by (run_of s m es)
+  pub leaves_run : (s : State) → decode_of i ≡ Some s → l ≡ left_by (run_of s m es)
   unfolding run_of
   leaves_run = list.leaves_run list30 reads30 keeps30 i m es l h
 
-  pub leaves_state : (s : State) → decode_of i ≡ Good s → (t : State) → decode_of l.image ≡ Good t
+  pub leaves_state : (s : State) → decode_of i ≡ Some s → (t : State) → decode_of l.image ≡ Some t
       → t ≡ (run_of s m es).state
   unfolding run_of
   leaves_state = list.leaves_state list30 reads30 keeps30 i m es l h

@@ -6,6 +6,7 @@ use mathlib.Core.Path.{◌≡◌, refl, ap}
 use mathlib.Core.Bool.{true, false}
 use mathlib.Core.List.{List}
 use lib.ListN.{length, take, drop, get_or, set}
+use Rattle.std.specs.Prelude.{Option, Some, None}
 use Rattle.numbers.specs.Numbers.{accepted, wrong_memory, wrong_state, unknown_event, short_answers}
 use Rattle.bus_list.proofs.Runs as list
 use Rattle.bus_list.proofs.Lists as lists
@@ -17,8 +18,6 @@ use Rattle.fm3130.specs.declared.State.{State}
 use Rattle.fm3130.proofs.Wellformed.{event_ok}
 use Rattle.fm3130_image.specs.Image.{image_of, decode_of}
 use Rattle.fm3130_image.specs.Reading.{decoded_says}
-use Rattle.fm3130_image.specs.declared.Decoded.{Decoded}
-use Rattle.fm3130_image.specs.declared.Decoded.TheVariants.{Good, Bad}
 use Rattle.fm3130_image.proofs.Images.{decode_image, image_decode}
 use Rattle.fm3130_list.specs.Run.{Ended, following, answer_to, after, run_of, RanThrough, all_known}
 use Rattle.fm3130_list.specs.Run.{Outcome, refused, outcome_of}
@@ -41,22 +40,22 @@ abbrev pub written : Ended → List ℕ → List ℕ → Outcome
 written r es a = lists.written list30 r es a
 
 -- an image is read, or not
-pub by_image : {X : Type 0} (i : List ℕ) (d : Decoded) → decode_of i ≡ d → ((s : State) → decode_of i ≡ Good s → X)
-    → (decode_of i ≡ Bad → X) → X
-by_image i (Good s) e f g = f s e
-by_image i Bad e f g = g e
+pub by_image : {X : Type 0} (i : List ℕ) (d : Option State) → decode_of i ≡ d → ((s : State) → decode_of i ≡ Some s → X)
+    → (decode_of i ≡ None → X) → X
+by_image i (Some s) e f g = f s e
+by_image i None e f g = g e
 
 -- what the laws ask of the FM3130's images, and of its events
 abbrev pub reads30 : lists.Reads list30
 reads30 =
     record {
       Ok = λ s. well_formed s ≡ true;
-      Read = λ i s. decode_of i ≡ Good s;
-      Unread = λ i. decode_of i ≡ Bad;
+      Read = λ i s. decode_of i ≡ Some s;
+      Unread = λ i. decode_of i ≡ None;
       or_not = λ i f g. by_image i (decode_of i) refl f g;
-      some_read = λ i s d. ap (λ (x : Decoded). (decoded_says x).returned) d;
-      none_read = λ i d. ap (λ (x : Decoded). (decoded_says x).returned) d;
-      number = λ i d. ap (λ (x : Decoded). (decoded_says x).number) d;
+      some_read = λ i s d. ap (λ (x : Option State). (decoded_says x).returned) d;
+      none_read = λ i d. ap (λ (x : Option State). (decoded_says x).returned) d;
+      number = λ i d. ap (λ (x : Option State). (decoded_says x).number) d;
       again = decode_image;
       ok = λ i s d. (image_decode i s d).0;
       image = λ i s d. (image_decode i s d).1;
@@ -101,10 +100,10 @@ module _ (i m es a : List ℕ) where
   outcome_wrong_memory = ends.outcome_wrong_memory list30 reads30 i m es a
 
   module _ (h : length m ≡ memory_size) where
-    pub outcome_wrong_image : decode_of i ≡ Bad → outcome_of i m es a ≡ refused wrong_state i m a
+    pub outcome_wrong_image : decode_of i ≡ None → outcome_of i m es a ≡ refused wrong_state i m a
     outcome_wrong_image = ends.outcome_wrong_image list30 reads30 i m es a h
 
-    module _ (s : State) (d : decode_of i ≡ Good s) where
+    module _ (s : State) (d : decode_of i ≡ Some s) where
       pub outcome_unknown_event : all_known es ≡ false → outcome_of i m es a ≡ refused unknown_event i m a
       outcome_unknown_event = ends.outcome_unknown_event list30 reads30 i m es a h s d
 

@@ -5,8 +5,7 @@
 --   WrittenBy                  a well-formed state writes an image
 --   Says, decoded_says          each answer's line of 01's table: its number, when it is given, what is returned
 --   DecodeSettled              the contract of `decode`
-use Rattle.std.specs.Prelude.{ℕ, ◌≡◌, true, List}
-use Rattle.std.proofs.Math.Option.{Option, some, none}
+use Rattle.std.specs.Prelude.{ℕ, ◌≡◌, true, List, Option, Some, None}
 use Rattle.numbers.specs.Numbers.{accepted, wrong_state}
 use Rattle.fm31.specs.Limits.{well_formed}
 use Rattle.fm31.specs.declared.State.{State}
@@ -30,10 +29,10 @@ abbrev pub decoded_says : ℕ → ℕ → Decoded → Says
 decoded_says size select (Good s) = record {
   number = accepted;
   given = λ i. WrittenBy size select i s;
-  returned = some s;
+  returned = Some s;
 }
 decoded_says size select Bad =
-    record { number = wrong_state; given = λ i. (s : State) → WrittenBy size select i s → ⊥; returned = none }
+    record { number = wrong_state; given = λ i. (s : State) → WrittenBy size select i s → ⊥; returned = None }
 
 -- The contract of `decode`: an answer is given exactly when its line says so.
 abbrev pub DecodeSettled : ℕ → ℕ → List ℕ → Decoded → Type 0

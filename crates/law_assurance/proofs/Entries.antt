@@ -6,11 +6,11 @@ use mathlib.Core.Path.{◌≡◌, refl, ap, ◌∙◌}
 use mathlib.Core.Bool.{Bool, true, false, cond}
 use mathlib.Core.List.{List, [], ◌∷◌}
 use lib.ListN.{length}
+use Rattle.std.specs.Prelude.{Some}
 use Rattle.wire.proofs.Tests.{by_test}
 use Rattle.fm3130.specs.Chip.{memory_size}
 use Rattle.fm3130.specs.Limits.{well_formed}
 use Rattle.fm3130_image.specs.Image.{image_of, decode_of}
-use Rattle.fm3130_image.specs.declared.Decoded.TheVariants.{Good}
 use Rattle.fm3130_list.specs.Run.{Outcome, all_known}
 use Rattle.fm3130_image.proofs.Images.{decode_image}
 use Rattle.fm3130_list.proofs.Runs.{outcome_written}
@@ -70,7 +70,7 @@ module _ (w : World) (x : Master) (es a : List ℕ) (ok : well_formed w.state �
   abbrev i : List ℕ
   i = image_of w.state
 
-  read : decode_of i ≡ Good w.state
+  read : decode_of i ≡ Some w.state
   read = decode_image w.state ok
 
   unknown : all_known es ≡ false → CallAs w x es a

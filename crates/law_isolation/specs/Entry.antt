@@ -6,7 +6,7 @@
 --   DemandedOf            what holds of the three runs
 --   Asked                 what is asked of the image, the lists and the merge
 --   DemandThreeOfCalls    the demand                DemandThreeOfCall   the same, of one call each
-use Rattle.std.specs.Prelude.{ℕ, ◌≡◌, List, take, drop}
+use Rattle.std.specs.Prelude.{ℕ, ◌≡◌, List, take, drop, Some}
 use Rattle.wire.specs.declared.Side.TheVariants.{Memory, Companion}
 use Rattle.wire.specs.declared.Phase.TheVariants.{Idle}
 use Rattle.bus.specs.declared.Power.TheVariants.{On}
@@ -17,7 +17,6 @@ use Rattle.fm3130_image.specs.Image.{decode_of}
 use Rattle.fm3130_list.specs.Run.{outcome_of}
 use Rattle.fm3130_list.specs.Held.{held}
 use Rattle.fm3130_list.specs.Calls.{Left, left_of, Leaves}
-use Rattle.fm3130_image.specs.declared.Decoded.TheVariants.{Good}
 use Rattle.law_merging.specs.Merge.{events_of, picked}
 use Rattle.law_merging.specs.Party.{to, is_memory, is_companion, BusEvent, PartyEvent, Whole}
 use Rattle.law_merging.specs.Demand.{Merge}
@@ -42,7 +41,7 @@ pub record DemandedOf (first second merged : Left) (l : List (PartyEvent fm3130)
 -- What demand 3 asks of the image's state, of the two lists and of their merge.
 pub record Asked (i m : List ℕ) (xs ys : List (BusEvent fm3130)) (l : List (PartyEvent fm3130)) : Type 0 where
   pub state : State
-  pub holds : decode_of i ≡ Good state
+  pub holds : decode_of i ≡ Some state
   pub on : state.power ≡ On
   pub idle : state.phase ≡ Idle
   pub first : Whole fm3130 (to Memory) xs

@@ -7,9 +7,9 @@ use mathlib.Core.List.{List, [], ◌∷◌, ◌++◌}
 use native.Mathlib.Omega.{arith}
 use lib.Dec.{leb}
 use borrow.Author.Tests.{le-leb, lt-leb}
+use Rattle.std.specs.Prelude.{Some}
 use Rattle.wire.proofs.Tests.{and_join}
 use Rattle.fm3130.specs.Event.{happening}
-use Rattle.fm3130_image.specs.declared.Decoded.TheVariants.{Good}
 use Rattle.fm3130_image.specs.Image.{decode_of}
 use Rattle.fm3130_image.proofs.Images.{settled_decode}
 use Rattle.bus_list.specs.Run as list
@@ -61,8 +61,8 @@ stands : (h x : ℕ) → h ≤ 2 → 1 ≤ x → x ≤ 2 → standing_of (h ∷ 
 stands h x a b c = standing_known (h ∷ []) x refl a b c
 
 -- an image that a state writes
-decoded : (i m es : List ℕ) (h : Handed i m es) → decode_of i ≡ Good h.state
-decoded i m es h = settled_decode i (Good h.state) h.image
+decoded : (i m es : List ℕ) (h : Handed i m es) → decode_of i ≡ Some h.state
+decoded i m es h = settled_decode i (Some h.state) h.image
 
 pub not_held_lem : NotHeld
 not_held_lem h x i m es a before after e low some top other handed cut bus =

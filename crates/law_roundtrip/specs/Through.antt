@@ -4,7 +4,7 @@
 --   given                  what an entry wrote: the front of its buffer
 --   first_run, second_run    the two calls of the list run
 --   Through                the statement
-use Rattle.std.specs.Prelude.{ℕ, ◌≤◌, ◌<◌, ◌≡◌, List, length, take, replicate}
+use Rattle.std.specs.Prelude.{ℕ, ◌≤◌, ◌<◌, ◌≡◌, List, length, take, replicate, Some}
 use Rattle.bus.specs.declared.Power.TheVariants.{On}
 use Rattle.fm3130_companion.specs.Part.{guard_of}
 use Rattle.numbers.specs.Numbers.{accepted}
@@ -12,7 +12,6 @@ use Rattle.fm3130.specs.Chip.{memory_size}
 use Rattle.fm3130.specs.declared.State.{State}
 use Rattle.fm3130_image.specs.Image.{decode_of}
 use Rattle.fm3130_list.specs.Run as Run
-use Rattle.fm3130_image.specs.declared.Decoded.TheVariants.{Good}
 use Rattle.c_master.specs.Numbers.{most}
 use Rattle.wire_clocks.specs.Events.{write_count, read_count}
 use Rattle.c_master.specs.Outcome.{Outcome, filled, write_events_of, read_events_of, write_told_of, read_told_of}
@@ -40,7 +39,7 @@ pub record CameBack (bs flags got : List ℕ) (w r : Run.Outcome) : Type 0 where
 abbrev pub Through : Type 0
 Through =
     (i m : List ℕ) (s : State) (a : ℕ) (bs e f x y flags got : List ℕ)
-    → decode_of i ≡ Good s → s.power ≡ On → length m ≡ memory_size → a < memory_size
+    → decode_of i ≡ Some s → s.power ≡ On → length m ≡ memory_size → a < memory_size
     → 1 ≤ length bs → length bs ≤ most → AllBytes bs → Free (guard_of s.companion) a (length bs)
     → write_count (length bs) ≤ length e → read_count (length bs) ≤ length f
     → length x ≡ write_count (length bs) → length y ≡ read_count (length bs)

@@ -6,11 +6,11 @@ use mathlib.Core.Bool.{true, false, and-false}
 use mathlib.Core.List.{List, [], ◌∷◌, ◌++◌}
 use lib.Dec.{leb}
 use borrow.Author.Tests.{le-leb, lt-leb}
+use Rattle.std.specs.Prelude.{Some, None}
 use Rattle.wire.proofs.Tests.{and_join}
 use Rattle.fm3130.specs.declared.State.{State}
 use Rattle.fm3130_image.specs.Image.{decode_of}
 use Rattle.fm3130_image.specs.Reading.{WrittenBy}
-use Rattle.fm3130_image.specs.declared.Decoded.TheVariants.{Good, Bad}
 use Rattle.fm3130_image.proofs.Images.{settled_decode}
 use Rattle.bus_list.specs.Run as list
 use Rattle.fm3130_list.specs.Run.{Outcome, all_known}
@@ -33,7 +33,7 @@ pub every_list_number : EveryListNumber
 every_list_number i m es a =
     record {
       memory = outcome_wrong_memory i m es a;
-      image = λ h n. outcome_wrong_image i m es a h (settled_decode i Bad n);
+      image = λ h n. outcome_wrong_image i m es a h (settled_decode i None n);
       event = λ h s w before after e cut l.
           outcome_unknown_event i m es a h s (good s w) (ap all_known cut ∙ unknown before after e l);
       answers = λ h s w k l. outcome_short_answers i m es a h s (good s w) (known es k) l;
@@ -42,5 +42,5 @@ every_list_number i m es a =
           (ap (λ (z : Outcome). z.number) o, ap (λ (z : Outcome). z.count) o);
     }
   where
-    good : (s : State) → WrittenBy i s → decode_of i ≡ Good s
-    good s w = settled_decode i (Good s) w
+    good : (s : State) → WrittenBy i s → decode_of i ≡ Some s
+    good s w = settled_decode i (Some s) w

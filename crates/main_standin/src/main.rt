@@ -19,7 +19,7 @@ use c_run::run::{fm3130_fresh, fm3130_run};
 use fm3130::State;
 use fm3130_accept::decode;
 use fm3130_image::write::image_of;
-use fm3130_image::{Decoded, LENGTH, MEMORY};
+use fm3130_image::{LENGTH, MEMORY};
 use numbers::ACCEPTED;
 use std::io;
 use std::io::{ErrorKind, Read};
@@ -149,7 +149,7 @@ fn by_value_too(
     if answers.len() < events.len() {
         return false;
     }
-    let Decoded::Good(first) = decode(before) else {
+    let Some(first) = decode(before) else {
         return false;
     };
     let last = step_events(first, memory_before, events, answers);

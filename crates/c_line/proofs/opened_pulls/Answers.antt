@@ -1,6 +1,7 @@
 -- SPDX-License-Identifier: Apache-2.0
--- The two slave bytes that read, and any other.
-use mathlib.Core.Path.{◌∙◌}
+-- A byte that names a device to be read: the first bit of the byte at its address. Any other: nothing.
+use mathlib.Core.Path.{◌≡◌, ◌∙◌}
+use native.Mathlib.Omega.{arith}
 use Rattle.wire.specs.Slave.{slave_names}
 use Rattle.c_line.specs.Code.Line.{low_bit, opened_low}
 use Rattle.fm3130_image.proofs.Accepts.{image_long}
@@ -13,26 +14,30 @@ fetched-requires c =
     let t = c in
     record { image_len = (image_long _ t.requires.0, t.requires.1); image_bound = image_places _ t.args.memory.now t.requires.1 t.requires.0 }
 
-pub returns-then-byte-eq161 : goal.returns-then-byte-eq161
+pub returns-in-161 : goal.returns-in-161
 unfolding opened_low slave_names
-returns-then-byte-eq161 c =
+returns-in-161 c =
     λ f e.
     let t = c in
     let g = fetched_at t.args.image.now t.args.memory.now t.requires.0 _ 7 c.fetched.ensures in
-    told_opened f (low_bit 0 c.fetched.result) _ (e ∙ rw (c.if-byte-eq161.true, g)) c.if_low.ensures.0
+    told_opened f (low_bit 0 c.fetched.result) _ (e ∙ rw (c.in-161.is, g)) c.if_low.ensures.0
 
-pub fetched-requires-then-byte-eq209 : goal.fetched-requires-then-byte-eq209
-fetched-requires-then-byte-eq209 c =
+pub fetched-requires-in-209 : goal.fetched-requires-in-209
+fetched-requires-in-209 c =
     let t = c in
     record { image_len = (image_long _ t.requires.0, t.requires.1); image_bound = image_places _ t.args.memory.now t.requires.1 t.requires.0 }
 
-pub returns-then-byte-eq209 : goal.returns-then-byte-eq209
+pub returns-in-209 : goal.returns-in-209
 unfolding opened_low slave_names
-returns-then-byte-eq209 c =
+returns-in-209 c =
     λ f e.
     let t = c in
-    let g = fetched_at t.args.image.now t.args.memory.now t.requires.0 _ 8 c.fetched-then-byte-eq209.ensures in
-    told_opened f (low_bit 0 c.fetched-then-byte-eq209.result) _ (e ∙ rw (c.if-byte-eq209.true, g)) c.if_low-then-byte-eq209.ensures.0
+    let g = fetched_at t.args.image.now t.args.memory.now t.requires.0 _ 8 c.fetched-in-209.ensures in
+    told_opened f (low_bit 0 c.fetched-in-209.result) _ (e ∙ rw (c.in-209.is, g)) c.if_low-in-209.ensures.0
 
-pub returns : goal.returns
-returns c = λ f e. rw (e, not_opened _ _ _ c.if-byte-eq161.false c.if-byte-eq209.false)
+pub returns-in_default : goal.returns-in_default
+returns-in_default c =
+    let d = c.in_default in
+    let memory : c.args.byte ≡ 161 → ⊥ = λ z. omega arith in
+    let companion : c.args.byte ≡ 209 → ⊥ = λ z. omega arith in
+    λ f e. rw (e, not_opened _ _ _ memory companion)

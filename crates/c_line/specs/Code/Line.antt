@@ -16,7 +16,7 @@ use Rattle.wire.specs.declared.Phase.{Phase}
 use Rattle.fm3130_companion.specs.Part.{loads_bad_date, load_of, guard_of}
 use Rattle.fm3130_companion.specs.declared.Companion as C
 use Rattle.fm3130.specs.Chip.{memory_size, fm3130}
-use Rattle.c_line.specs.Line.{Pulls, pulls}
+use Rattle.c_line.specs.Line.{Pulls}
 
 -- Auxiliary: the device pulls the line of a Clock in a phase.
 unfoldable pub pulled_at : Phase → Cells → C.Companion → Bool

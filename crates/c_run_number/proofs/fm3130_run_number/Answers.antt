@@ -5,4 +5,4 @@ use Rattle.bus_list.specs.Outcome.{numbered}
 use Rattle.c_run_number.proofs.fm3130_run_number.Goals as goal
 
 pub returns : goal.returns
-returns c = ap numbered c.fm3130_run-ran.ensures
+returns c = ap numbered c.fm3130_run.ensures

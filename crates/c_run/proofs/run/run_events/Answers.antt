@@ -1,9 +1,7 @@
 -- SPDX-License-Identifier: Apache-2.0
 -- The loop's invariant: the image is accepted, and the events so far lead from the first place to this one. The measure is
 -- what is left.
-use Prim.Native.Nat.{◌-◌}
 use mathlib.Core.Path.{sym, ◌∙◌}
-use mathlib.Core.Bool.{true}
 use native.Mathlib.Omega.{arith}
 use Rattle.fm3130_image.proofs.Accepts.{image_long}
 use Rattle.place_rows.proofs.Ledger.{begun, led_on, led_through}

@@ -2,21 +2,13 @@
 -- A part by its kind.
 use mathlib.Core.Path.{◌∙◌}
 use borrow.Author.Tests.{eq-eqb, ne_eqb}
-use Rattle.fm3130_image.proofs.Images.{settled_decode}
+use Rattle.fm3130_image.proofs.Accepts.{image_some}
 use Rattle.capture_table.specs.Table.{is_accepted}
 use Rattle.capture_table.proofs.faults.accepts.Goals as goal
 
-pub returns-in-Good : goal.returns-in-Good
+pub returns-then-kind-eq-IMAGE_KIND : goal.returns-then-kind-eq-IMAGE_KIND
 unfolding is_accepted
-returns-in-Good c =
-    let d = c in
-    rw (eq-eqb _ _ d.if-kind-eq-IMAGE_KIND.true, settled_decode _ _ d.decode.ensures ∙ c.in-Good.is)
-
-pub returns-in-Bad : goal.returns-in-Bad
-unfolding is_accepted
-returns-in-Bad c =
-    let d = c in
-    rw (eq-eqb _ _ d.if-kind-eq-IMAGE_KIND.true, settled_decode _ _ d.decode.ensures ∙ c.in-Bad.is)
+returns-then-kind-eq-IMAGE_KIND c = rw (eq-eqb _ _ c.if-kind-eq-IMAGE_KIND.true) (c.is_image.ensures ∙ image_some _)
 
 pub returns-then-kind-eq-MEMORY_KIND : goal.returns-then-kind-eq-MEMORY_KIND
 unfolding is_accepted
