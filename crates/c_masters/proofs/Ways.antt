@@ -16,20 +16,18 @@ use Rattle.fm3130_list.specs.Run.{RanThrough, all_known, outcome_of}
 use Rattle.c_run.specs.Run.{outcome_with}
 use Rattle.c_run.specs.declared.Ran.{Ran}
 use Rattle.fm3130_list.proofs.Runs.{outcome_short_answers, outcome_written, outcome_done}
-use Rattle.masters_hold.specs.Bus.{may_ask, may_call, master_number, standing_of}
+use Rattle.masters_hold.specs.Bus.{Holder, may_ask, may_call, master_number, standing_of}
 use Rattle.c_masters.specs.Outcome.{ask_of, AskSettled, CallOutcome, refused_call, ran_call, bus_after, call_on, is_good}
 use Rattle.c_masters.specs.Outcome.{call_of, CallSettled}
 use Rattle.masters_hold.specs.declared.Master.{Master}
-use Rattle.masters_hold.specs.declared.Holder.{Holder}
-use Rattle.masters_hold.specs.declared.Standing.TheVariants.{Known, Unknown}
 
 -- an ask
 module _ (b : List ℕ) (x : ℕ) where
-  pub ask_unknown : standing_of b x ≡ Unknown → ask_of b x ≡ record { number = wrong_state; bus = b }
+  pub ask_unknown : standing_of b x ≡ None → ask_of b x ≡ record { number = wrong_state; bus = b }
   unfolding ask_of
   ask_unknown h = rw h
 
-  module _ (g : Holder) (y : Master) (h : standing_of b x ≡ Known g y) where
+  module _ (g : Holder) (y : Master) (h : standing_of b x ≡ Some (record { holder = g; master = y })) where
     pub ask_refused : may_ask g y ≡ false → ask_of b x ≡ record { number = not_held; bus = b }
     unfolding ask_of
     ask_refused q = rw (h, q)
@@ -50,11 +48,11 @@ module _ (b : List ℕ) (x : ℕ) (i m es a : List ℕ) where
     call_wrong_image d = rw (eq-eqb (length m) memory_size h, d)
 
     module _ (s : State) (d : decode_of i ≡ Some s) where
-      pub call_unknown : standing_of b x ≡ Unknown → call_of b x i m es a ≡ refused_call wrong_state b i m a
+      pub call_unknown : standing_of b x ≡ None → call_of b x i m es a ≡ refused_call wrong_state b i m a
       unfolding call_of
       call_unknown q = rw (eq-eqb (length m) memory_size h, d, q)
 
-      module _ (g : Holder) (y : Master) (q : standing_of b x ≡ Known g y) where
+      module _ (g : Holder) (y : Master) (q : standing_of b x ≡ Some (record { holder = g; master = y })) where
         pub call_unknown_event : all_known es ≡ false → call_of b x i m es a ≡ refused_call unknown_event b i m a
         unfolding call_of
         call_unknown_event k = rw (eq-eqb (length m) memory_size h, d, q, k)

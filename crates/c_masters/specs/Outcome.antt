@@ -14,7 +14,6 @@ use Rattle.c_run.specs.Run.{outcome_with}
 use Rattle.c_run.specs.declared.Ran.{Ran}
 use Rattle.masters_hold.specs.Bus.{may_ask, may_call, master_number, standing_of, bus_freed}
 use Rattle.masters_hold.specs.declared.Standing.{Standing}
-use Rattle.masters_hold.specs.declared.Standing.TheVariants.{Known, Unknown}
 
 -- What a caller can see of an ask: its number, and the lent byte.
 pub record AskOutcome : Type 0 where
@@ -22,10 +21,11 @@ pub record AskOutcome : Type 0 where
   pub bus : List ℕ
 
 -- "An ask while the other holds it .. is refused .. and changes nothing."
-abbrev pub ask_on : Standing → List ℕ → AskOutcome
-ask_on Unknown b = record { number = wrong_state; bus = b }
-ask_on (Known g x) b =
-    cond (may_ask g x) (record { number = accepted; bus = master_number x ∷ [] }) (record { number = not_held; bus = b })
+abbrev pub ask_on : Option Standing → List ℕ → AskOutcome
+ask_on None b = record { number = wrong_state; bus = b }
+ask_on (Some s) b =
+    cond (may_ask s.holder s.master) (record { number = accepted; bus = master_number s.master ∷ [] })
+    (record { number = not_held; bus = b })
 
 unfoldable pub ask_of : List ℕ → ℕ → AskOutcome
 ask_of b x = ask_on (standing_of b x) b
@@ -48,11 +48,11 @@ abbrev pub ran_call : Outcome → List ℕ → List ℕ → CallOutcome
 ran_call o es b = record { run = o; bus = bus_after o.number es b }
 
 -- Number 7 after number 3.
-abbrev pub call_on : Standing → List ℕ → List ℕ → List ℕ → List ℕ → List ℕ → CallOutcome
-call_on Unknown b i m es a = refused_call wrong_state b i m a
-call_on (Known g x) b i m es a =
+abbrev pub call_on : Option Standing → List ℕ → List ℕ → List ℕ → List ℕ → List ℕ → CallOutcome
+call_on None b i m es a = refused_call wrong_state b i m a
+call_on (Some s) b i m es a =
     cond (all_known es)
-    (cond (may_call g x es) (ran_call (outcome_of i m es a) es b) (refused_call not_held b i m a))
+    (cond (may_call s.holder s.master es) (ran_call (outcome_of i m es a) es b) (refused_call not_held b i m a))
     (refused_call unknown_event b i m a)
 
 -- Auxiliary: whether a well-formed state writes an image.

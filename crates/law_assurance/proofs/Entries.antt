@@ -6,7 +6,7 @@ use mathlib.Core.Path.{◌≡◌, refl, ap, ◌∙◌}
 use mathlib.Core.Bool.{Bool, true, false, cond}
 use mathlib.Core.List.{List, [], ◌∷◌}
 use lib.ListN.{length}
-use Rattle.std.specs.Prelude.{Some}
+use Rattle.std.specs.Prelude.{Some, None}
 use Rattle.wire.proofs.Tests.{by_test}
 use Rattle.fm3130.specs.Chip.{memory_size}
 use Rattle.fm3130.specs.Limits.{well_formed}
@@ -14,26 +14,23 @@ use Rattle.fm3130_image.specs.Image.{image_of, decode_of}
 use Rattle.fm3130_list.specs.Run.{Outcome, all_known}
 use Rattle.fm3130_image.proofs.Images.{decode_image}
 use Rattle.fm3130_list.proofs.Runs.{outcome_written}
-use Rattle.masters_hold.specs.Bus.{may_ask, may_call, frees, master_number, holder_number, standing_of}
+use Rattle.masters_hold.specs.Bus.{Holder, may_ask, may_call, frees, master_number, holder_number, standing_of}
 use Rattle.c_masters.specs.Outcome.{AskOutcome, CallOutcome}
 use Rattle.masters_hold.specs.declared.Master.{Master}
 use Rattle.masters_hold.specs.declared.Master.TheVariants.{Rig, Handheld}
-use Rattle.masters_hold.specs.declared.Holder.{Holder}
-use Rattle.masters_hold.specs.declared.Holder.TheVariants.{Nobody, Held}
-use Rattle.masters_hold.specs.declared.Standing.TheVariants.{Known}
 use Rattle.c_masters.proofs.Ways.{ask_refused, ask_answered, call_unknown_event, call_not_held, call_ran}
 use Rattle.law_assurance.specs.Session.{World, asks, after_act}
 use Rattle.law_assurance.specs.Entries.{bus_byte, AskAs, CallAs, AsTheEntries}
 
 -- a holder's byte and a master's number name them again
-stands : (g : Holder) (x : Master) → standing_of (holder_number g ∷ []) (master_number x) ≡ Known g x
+stands : (g : Holder) (x : Master) → standing_of (holder_number g ∷ []) (master_number x) ≡ Some (record { holder = g; master = x })
 unfolding standing_of
-stands Nobody Rig = refl
-stands Nobody Handheld = refl
-stands (Held Rig) Rig = refl
-stands (Held Rig) Handheld = refl
-stands (Held Handheld) Rig = refl
-stands (Held Handheld) Handheld = refl
+stands None Rig = refl
+stands None Handheld = refl
+stands (Some Rig) Rig = refl
+stands (Some Rig) Handheld = refl
+stands (Some Handheld) Rig = refl
+stands (Some Handheld) Handheld = refl
 
 ask_as : (w : World) (x : Master) → AskAs w x
 ask_as w x = go w.holder x refl
@@ -41,7 +38,7 @@ ask_as w x = go w.holder x refl
     answers : (g : Holder) (x : Master) → w.holder ≡ g → may_ask g x ≡ true
         → master_number x ∷ [] ≡ bus_byte (after_act w (asks x)) → AskAs w x
     answers g x e may bus =
-        let h : standing_of (bus_byte w) (master_number x) ≡ Known g x = rw e (stands g x) in
+        let h : standing_of (bus_byte w) (master_number x) ≡ Some (record { holder = g; master = x }) = rw e (stands g x) in
         let o = ask_answered (bus_byte w) (master_number x) g x h may in
         record {
           number = ap (λ (z : AskOutcome). z.number) o ∙ rw (e, may) refl;
@@ -51,7 +48,7 @@ ask_as w x = go w.holder x refl
     refuses : (g : Holder) (x : Master) → w.holder ≡ g → may_ask g x ≡ false
         → bus_byte w ≡ bus_byte (after_act w (asks x)) → AskAs w x
     refuses g x e may bus =
-        let h : standing_of (bus_byte w) (master_number x) ≡ Known g x = rw e (stands g x) in
+        let h : standing_of (bus_byte w) (master_number x) ≡ Some (record { holder = g; master = x }) = rw e (stands g x) in
         let o = ask_refused (bus_byte w) (master_number x) g x h may in
         record {
           number = ap (λ (z : AskOutcome). z.number) o ∙ rw (e, may) refl;
@@ -59,11 +56,11 @@ ask_as w x = go w.holder x refl
         }
 
     go : (g : Holder) (x : Master) → w.holder ≡ g → AskAs w x
-    go Nobody x e = answers Nobody x e refl (rw e refl)
-    go (Held Rig) Rig e = answers (Held Rig) Rig e refl (rw e refl)
-    go (Held Rig) Handheld e = refuses (Held Rig) Handheld e refl (rw e refl)
-    go (Held Handheld) Rig e = refuses (Held Handheld) Rig e refl (rw e refl)
-    go (Held Handheld) Handheld e = answers (Held Handheld) Handheld e refl (rw e refl)
+    go None x e = answers None x e refl (rw e refl)
+    go (Some Rig) Rig e = answers (Some Rig) Rig e refl (rw e refl)
+    go (Some Rig) Handheld e = refuses (Some Rig) Handheld e refl (rw e refl)
+    go (Some Handheld) Rig e = refuses (Some Handheld) Rig e refl (rw e refl)
+    go (Some Handheld) Handheld e = answers (Some Handheld) Handheld e refl (rw e refl)
 
 module _ (w : World) (x : Master) (es a : List ℕ) (ok : well_formed w.state ≡ true)
     (long : length w.memory ≡ memory_size) (room : length es ≤ length a) where
@@ -99,7 +96,7 @@ module _ (w : World) (x : Master) (es a : List ℕ) (ok : well_formed w.state �
         answers = ap (λ (z : CallOutcome). z.run.answers) o ∙ rw (k, c) refl;
       }
 
-  freed : (f : Bool) → cond f (0 ∷ []) (bus_byte w) ≡ holder_number (cond f Nobody w.holder) ∷ []
+  freed : (f : Bool) → cond f (0 ∷ []) (bus_byte w) ≡ holder_number (cond f None w.holder) ∷ []
   freed true = refl
   freed false = refl
 

@@ -17,11 +17,10 @@ use Rattle.fm3130.specs.Event.{Happening, on_wire, beat, lost, gone, returned, h
 use Rattle.fm3130.specs.declared.State.{State}
 use Rattle.fm3130_list.specs.Run.{run_of, all_known}
 use Rattle.fm3130_list.proofs.Pieces.{run_append}
-use Rattle.masters_hold.specs.Bus.{same_master, holds, after_ask, is_bus, any_bus, may_call, freed_by, frees}
+use Rattle.masters_hold.specs.Bus.{Holder, same_master, holds, after_ask, is_bus, any_bus, may_call, freed_by, frees}
 use Rattle.masters_hold.specs.declared.Master.{Master}
-use Rattle.masters_hold.specs.declared.Holder.{Holder}
 use Rattle.masters_hold.specs.declared.Master.TheVariants.{Rig, Handheld}
-use Rattle.masters_hold.specs.declared.Holder.TheVariants.{Nobody, Held}
+use Rattle.std.specs.Prelude.{Some, None}
 use Rattle.law_assurance.specs.Session.{World, Act, asks, calls, is_answered, ran_on, after_act, after_acts, neithers, own_in, own_of}
 use Rattle.law_assurance.specs.Same.{marked, ReadsSet, marked_after, HarmlessIn, AskedOf, mark_after_act, Allowed, Fair}
 use Rattle.law_assurance.proofs.Near.{equal, phases_idle}
@@ -158,20 +157,20 @@ same_is Handheld Handheld e = refl
 
 -- of two masters, one holds it
 not_both : (g : Holder) (x y : Master) → holds g x ≡ true → same_master x y ≡ false → holds g y ≡ false
-not_both Nobody x y h e = absurd (false≢true h)
-not_both (Held Rig) Rig Rig h e = absurd (true≢false e)
-not_both (Held Rig) Rig Handheld h e = refl
-not_both (Held Rig) Handheld y h e = absurd (false≢true h)
-not_both (Held Handheld) Rig y h e = absurd (false≢true h)
-not_both (Held Handheld) Handheld Rig h e = refl
-not_both (Held Handheld) Handheld Handheld h e = absurd (true≢false e)
+not_both None x y h e = absurd (false≢true h)
+not_both (Some Rig) Rig Rig h e = absurd (true≢false e)
+not_both (Some Rig) Rig Handheld h e = refl
+not_both (Some Rig) Handheld y h e = absurd (false≢true h)
+not_both (Some Handheld) Rig y h e = absurd (false≢true h)
+not_both (Some Handheld) Handheld Rig h e = refl
+not_both (Some Handheld) Handheld Handheld h e = absurd (true≢false e)
 
 may_worlds : (g : Holder) (x : Master) (es : List ℕ) → may_call g x es ≡ true → holds g x ≡ false → any_bus es ≡ false
 may_worlds g x es c h = not-true (any_bus es) (rw h at c)
 
 ask_kept : (g : Holder) (me x : Master) → holds g me ≡ true → after_ask g x ≡ g
-ask_kept Nobody me x h = absurd (false≢true h)
-ask_kept (Held y) me x h = refl
+ask_kept None me x h = absurd (false≢true h)
+ask_kept (Some y) me x h = refl
 
 -- two devices between transfers
 module _ (A : ℕ → Bool) (h : State) (m : List ℕ) (r : State) (n : List ℕ) where
@@ -184,8 +183,8 @@ module _ (A : ℕ → Bool) (h : State) (m : List ℕ) (r : State) (n : List ℕ
 -- how a session stands, beside the run of the master's own events
 pub data Stands (me : Master) (A : ℕ → Bool) (t : Bool) (w : World) (r : State) (n : List ℕ) : Type 0 where
   ours : holds w.holder me ≡ true → Together A t w.state w.memory r n → Stands me A t w r n
-  others : (y : Master) → w.holder ≡ Held y → same_master y me ≡ false → t ≡ false → Apart A w.state w.memory r n → Stands me A t w r n
-  free : w.holder ≡ Nobody → t ≡ false → Together A t w.state w.memory r n → w.state.phase ≡ Idle → Stands me A t w r n
+  others : (y : Master) → w.holder ≡ Some y → same_master y me ≡ false → t ≡ false → Apart A w.state w.memory r n → Stands me A t w r n
+  free : w.holder ≡ None → t ≡ false → Together A t w.state w.memory r n → w.state.phase ≡ Idle → Stands me A t w r n
 
 stands_alike : {me : Master} {A : ℕ → Bool} {t : Bool} {w : World} {r : State} {n : List ℕ} → Stands me A t w r n
     → (u : Bool) × Alike A u w.state w.memory r n
@@ -219,14 +218,14 @@ module _ (me : Master) (A : ℕ → Bool) (t : Bool) (w : World) (r : State) (n 
         (λ q. free (rw q refl) (z q) k (run_rests es h m false false g.alike.dark (λ i. absurd (false≢true i)) q).0)
         (λ q. ours (rw q e) k)
 
-    stayed : (u : Bool) (l : List ℕ) → power_within h.power h.phase ≡ true → w.holder ≡ Nobody → h.phase ≡ Idle → any_bus es ≡ false
+    stayed : (u : Bool) (l : List ℕ) → power_within h.power h.phase ≡ true → w.holder ≡ None → h.phase ≡ Idle → any_bus es ≡ false
         → Together A u (run_of h m es).state (run_of h m es).memory (run_of r n l).state (run_of r n l).memory
         → u ≡ false → After u l
     stayed u l d e p b k z =
         let idle = (run_rests es h m true false d (λ i. (p, refl)) (frees_worlds es b)).0 in
-        free (by_cond₂ (λ (g : Holder). g ≡ Nobody) (frees false es) Nobody w.holder refl e) z k idle
+        free (by_cond₂ (λ (g : Holder). g ≡ None) (frees false es) None w.holder refl e) z k idle
 
-    parting : (u : Bool) (l : List ℕ) (y : Master) → power_within h.power h.phase ≡ true → w.holder ≡ Held y → same_master y me ≡ false
+    parting : (u : Bool) (l : List ℕ) (y : Master) → power_within h.power h.phase ≡ true → w.holder ≡ Some y → same_master y me ≡ false
         → Apart A (run_of h m es).state (run_of h m es).memory (run_of r n l).state (run_of r n l).memory
         → u ≡ false → After u l
     parting u l y d e s k z =

@@ -8,15 +8,13 @@
 --   answered_in, answered_of                  the events of answered calls
 --   answers_in, session_of                    what a session leaves, and all its answers
 --   neithers, own_in, own_of                  the events of one master, with those that belong to neither
-use Rattle.std.specs.Prelude.{ℕ, Bool, cond, ◌&&◌, List, [], ◌∷◌, ◌++◌}
+use Rattle.std.specs.Prelude.{ℕ, Bool, cond, ◌&&◌, List, [], ◌∷◌, ◌++◌, None}
 use Rattle.numbers.specs.Numbers.{accepted, unknown_event, not_held}
 use Rattle.fm3130.specs.Event.{happening}
 use Rattle.fm3130.specs.declared.State.{State}
 use Rattle.fm3130_list.specs.Run.{Ended, following, run_of, all_known}
-use Rattle.masters_hold.specs.Bus.{same_master, after_ask, is_bus, may_call, holder_after}
+use Rattle.masters_hold.specs.Bus.{Holder, same_master, after_ask, is_bus, may_call, holder_after}
 use Rattle.masters_hold.specs.declared.Master.{Master}
-use Rattle.masters_hold.specs.declared.Holder.{Holder}
-use Rattle.masters_hold.specs.declared.Holder.TheVariants.{Nobody}
 
 pub record World : Type 0 where
   pub holder : Holder
@@ -29,7 +27,7 @@ pub data Act : Type 0 where
 
 -- Nobody holds the bus.
 abbrev pub begin : State → List ℕ → World
-begin s m = record { holder = Nobody; state = s; memory = m }
+begin s m = record { holder = None; state = s; memory = m }
 
 abbrev pub is_answered : Holder → Master → List ℕ → Bool
 is_answered g x es = all_known es && may_call g x es

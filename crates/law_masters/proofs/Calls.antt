@@ -15,7 +15,6 @@ use Rattle.fm3130_image.proofs.Images.{settled_decode}
 use Rattle.bus_list.specs.Run as list
 use Rattle.fm3130_list.specs.Run.{all_known}
 use Rattle.masters_hold.specs.Bus.{holds, master_of, holder_of, any_bus, is_bus, may_call, standing_of}
-use Rattle.masters_hold.specs.declared.Standing.TheVariants.{Known}
 use Rattle.masters_hold.proofs.Known.{standing_known}
 use Rattle.masters_hold.proofs.Lists.{bus_byte_lem}
 use Rattle.c_masters.specs.Outcome.{CallOutcome}
@@ -57,7 +56,7 @@ itself (suc (suc zero)) b c = refl
 itself (suc (suc (suc x))) b c = absurd (omega arith)
 
 -- the standing of both
-stands : (h x : ℕ) → h ≤ 2 → 1 ≤ x → x ≤ 2 → standing_of (h ∷ []) x ≡ Known (holder_of h) (master_of x)
+stands : (h x : ℕ) → h ≤ 2 → 1 ≤ x → x ≤ 2 → standing_of (h ∷ []) x ≡ Some (record { holder = holder_of h; master = master_of x })
 stands h x a b c = standing_known (h ∷ []) x refl a b c
 
 -- an image that a state writes

@@ -8,6 +8,7 @@ use native.Mathlib.Omega.{arith}
 use lib.Dec.{eqb}
 use lib.ListN.{length}
 use borrow.Author.Tests.{eqb-true, eqb-false}
+use Rattle.std.specs.Prelude.{Option, Some, None}
 use Rattle.bits.proofs.Cases.{by_cond}
 use Rattle.wire.proofs.Tests.{by_test}
 use Rattle.fm3130.specs.Chip.{memory_size}
@@ -16,7 +17,6 @@ use Rattle.fm3130_image.specs.Image.{decode_of}
 use Rattle.fm3130_list.specs.Run.{all_known, outcome_of}
 use Rattle.masters_hold.specs.Bus.{freed_by, frees, may_call, standing_of, bus_freed}
 use Rattle.masters_hold.specs.declared.Standing.{Standing}
-use Rattle.masters_hold.specs.declared.Standing.TheVariants.{Known, Unknown}
 use Rattle.masters_hold.proofs.Lists.{freed_other}
 use Rattle.c_masters.specs.Outcome.{CallOutcome, call_on, is_good, call_of}
 use Rattle.law_masters.specs.Each.{Each}
@@ -28,11 +28,11 @@ record Left (b es : List ℕ) (o : CallOutcome) : Type 0 where
   pub refused : (o.run.number ≡ 0 → ⊥) → o.bus ≡ b
 
 module _ (b : List ℕ) (x : ℕ) (i m es a : List ℕ) where
-  on_standing : (g : Standing) → Left b es (call_on g b i m es a)
-  on_standing Unknown = record { answered = λ n. absurd (omega arith); refused = λ n. refl }
-  on_standing (Known g y) =
+  on_standing : (g : Option Standing) → Left b es (call_on g b i m es a)
+  on_standing None = record { answered = λ n. absurd (omega arith); refused = λ n. refl }
+  on_standing (Some s) =
       by_cond (Left b es) (all_known es)
-      (λ k. by_cond (Left b es) (may_call g y es)
+      (λ k. by_cond (Left b es) (may_call s.holder s.master es)
       (λ c. record { answered = λ n. rw n; refused = λ n. by_number (eqb (outcome_of i m es a).number 0) refl n })
       (λ c. record { answered = λ n. absurd (omega arith); refused = λ n. refl }))
       (λ k. record { answered = λ n. absurd (omega arith); refused = λ n. refl })

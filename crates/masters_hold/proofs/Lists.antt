@@ -1,15 +1,14 @@
 -- SPDX-License-Identifier: Apache-2.0
--- The loops over a call's events, one event more and at the end: whether some is one of the bus, and whether they free it.
-use Prim.Native.Nat.{ℕ, suc, ◌+◌, ◌≤◌, ◌<◌}
+-- A call's events: whether some is one of the bus, and whether they free it.
+use Prim.Native.Nat.{ℕ, ◌≤◌, ◌<◌}
 use mathlib.Core.Path.{◌≡◌, refl}
-use mathlib.Core.Bool.{Bool, ◌||◌, or_assoc, or-false}
-use mathlib.Core.List.{List}
+use mathlib.Core.Bool.{Bool, true}
+use mathlib.Core.List.{List, [], ◌∷◌}
 use native.Mathlib.Omega.{arith}
-use native.Mathlib.Numerals.{add-one}
 use lib.Dec.{leb, eqb}
-use lib.ListN.{length, drop, get_or, drop_of_length-le}
-use lib.Seq.{drop-cons}
 use borrow.Author.Tests.{le-leb, lt-leb, eqb-true, eqb-false, ne_eqb}
+use Rattle.std.specs.List.{list_any}
+use Rattle.std.proofs.Common.{fold}
 use Rattle.wire.proofs.Tests.{by_test}
 use Rattle.fm3130.specs.Event.{happening}
 use Rattle.masters_hold.specs.Bus.{is_bus, any_bus, freed_by, frees}
@@ -30,20 +29,20 @@ bus_byte_lem e =
     above : (e : ℕ) → (e ≡ 0 → ⊥) → (e ≡ 1 → ⊥) → (e ≡ 2 → ⊥) → (e ≡ 3 → ⊥) → 3 < e
     above e p q r s = omega arith
 
-module _ (es : List ℕ) (i : ℕ) (k : Bool) where
-  pub any_more : i < length es
-      → ((k || leb (get_or es i 0) 3) || any_bus (drop (i + 1) es)) ≡ (k || any_bus (drop i es))
-  any_more h =
-      rw (add-one, drop-cons es i 0, bus_byte_lem (get_or es i 0)) (or_assoc k (leb (get_or es i 0) 3) (any_bus (drop (suc i) es)))
+pub any_listed : (es : List ℕ) → list_any (λ e. leb e 3) es ≡ any_bus es
+any_listed [] = refl
+any_listed (e ∷ es) = rw (bus_byte_lem e, any_listed es) refl
 
-  pub any_end : length es ≤ i → (k || any_bus (drop i es)) ≡ k
-  any_end h = rw (drop_of_length-le es h) (or-false k)
+pub frees_fold : (f : Bool) (es : List ℕ) → fold (λ f e. freed_by f (happening e)) f es ≡ frees f es
+frees_fold f [] = refl
+frees_fold f (e ∷ es) = frees_fold (freed_by f (happening e)) es
 
-  pub frees_more : i < length es → frees (freed_by k (happening (get_or es i 0))) (drop (i + 1) es) ≡ frees k (drop i es)
-  frees_more h = rw (add-one, drop-cons es i 0) refl
-
-  pub frees_end : length es ≤ i → frees k (drop i es) ≡ k
-  frees_end h = rw (drop_of_length-le es h) refl
+-- events 5 and 6 free
+pub freed_late : (f : Bool) (e : ℕ) → 5 ≤ e → e ≤ 6 → freed_by f (happening e) ≡ true
+unfolding happening
+freed_late f e a b =
+    by_test (eqb e 5) (λ p. rw (eqb-true e 5 p))
+    (λ p. let n = eqb-false e 5 p in let six : e ≡ 6 = omega arith in rw six)
 
 -- an event that is neither a Start nor one that frees
 pub freed_other : (f : Bool) (e : ℕ) → (e ≡ 0 → ⊥) → (e ≡ 1 → ⊥) → (e ≡ 5 → ⊥) → (e ≡ 6 → ⊥) → freed_by f (happening e) ≡ f

@@ -6,22 +6,16 @@
 
 pub mod bus_byte;
 
-// The rig's own controller, and the maintainer's handheld.
-#[derive(Clone, Copy)]
+// The rig's own controller, and the maintainer's handheld, each with its number.
+#[derive(Clone, Copy, Debug, PartialEq, Eq)]
 pub enum Master {
-    Rig,
-    Handheld,
+    Rig = 1,
+    Handheld = 2,
 }
 
-#[derive(Clone, Copy)]
-pub enum Holder {
-    Nobody,
-    Held(Master),
-}
-
-// What the lent byte and a master's number say: who holds the bus and who speaks, if both exist.
-#[derive(Clone, Copy)]
-pub enum Standing {
-    Known { holder: Holder, master: Master },
-    Unknown,
+// What the lent byte and a master's number say: who holds the bus, if anybody does, and who speaks.
+#[derive(Clone, Copy, Debug, PartialEq, Eq)]
+pub struct Standing {
+    pub holder: Option<Master>,
+    pub master: Master,
 }

@@ -1,18 +1,14 @@
 -- SPDX-License-Identifier: Apache-2.0
--- What was seen of the events, and the rest, is the whole; at the end nothing is left.
-use Prim.Native.Nat.{◌-◌}
-use mathlib.Core.Path.{sym, ◌∙◌}
+-- Some event passes the test exactly where one is of the bus.
+use mathlib.Core.Path.{◌∙◌}
+use lib.Dec.{leb}
 use borrow.Author.Rules.{rules}
-use Rattle.masters_hold.proofs.Lists.{any_more, any_end}
+use Rattle.std.proofs.lemmas.Iterator.{YieldsList-from_slice}
+use Rattle.std.proofs.lemmas.Iterator.Search.{any_from_yields_List}
+use Rattle.masters_hold.proofs.Lists.{any_listed}
 use Rattle.masters_hold.proofs.bus_byte.any_bus.Goals as goal
-
-pub loop-i-preserved : goal.loop-i-preserved
-loop-i-preserved c =
-    let l = c.loop-i in
-    let es = c.args.events.now in
-    (search rules, any_more es l.i l.any (search rules) ∙ l.invariant.1)
 
 pub returns : goal.returns
 returns c =
-    let l = c.loop-i in
-    sym (any_end c.args.events.now l.i l.any c.loop-i-test.false) ∙ l.invariant.1
+    let es = c.args.events.now in
+    any_from_yields_List (λ e. leb e 3) _ _ _ c.any.ensures.ran (YieldsList-from_slice es (search rules)) (λ e b q r. search rules) ∙ any_listed es

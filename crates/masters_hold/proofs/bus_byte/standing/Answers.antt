@@ -1,26 +1,30 @@
 -- SPDX-License-Identifier: Apache-2.0
 -- The tests of the lent byte and of the number, each way by its law.
-use mathlib.Core.Path.{sym}
-use Rattle.masters_hold.proofs.Known.{standing_long, standing_byte, standing_below, standing_above, standing_known}
+use mathlib.Core.Path.{◌≡◌, sym, ◌∙◌}
+use lib.ListN.{length}
+use native.Mathlib.Omega.{arith}
+use Rattle.masters_hold.proofs.Known.{standing_long, standing_holder, standing_master, standing_both}
 use Rattle.masters_hold.proofs.bus_byte.standing.Goals as goal
 
-pub returns-then-bus-ne1 : goal.returns-then-bus-ne1
-returns-then-bus-ne1 c = sym (standing_long _ _ c.if-bus-ne1.true)
+pub returns-in_default : goal.returns-in_default
+returns-in_default c = sym (standing_long _ _ (λ e. omega arith))
 
-pub returns-then-bus-gt-LAST : goal.returns-then-bus-gt-LAST
-returns-then-bus-gt-LAST c = sym (standing_byte _ _ c.if-bus-ne1.false c.if-bus-gt-LAST.true)
+pub returns-in_default-2 : goal.returns-in_default-2
+returns-in_default-2 c = sym (standing_long _ _ (λ e. omega arith))
 
-pub returns-then-master-lt1 : goal.returns-then-master-lt1
-returns-then-master-lt1 c = sym (standing_below _ _ c.if-bus-ne1.false c.if-bus-gt-LAST.false c.if-master-lt1.true)
+pub returns-in_err-holder_of : goal.returns-in_err-holder_of
+returns-in_err-holder_of c =
+    let one : length c.args.bus.now ≡ 1 = omega arith in
+    c.from_residual.ensures ∙ sym (standing_holder _ _ one (sym c.holder_of.ensures ∙ c.in_err-holder_of.was))
 
-pub returns-then-master : goal.returns-then-master
-returns-then-master c =
-    sym (standing_above _ _ c.if-bus-ne1.false c.if-bus-gt-LAST.false c.if-master-lt1.false
-    c.if-master.true)
+pub returns-in_err-master_of : goal.returns-in_err-master_of
+returns-in_err-master_of c =
+    let one : length c.args.bus.now ≡ 1 = omega arith in
+    c.from_residual-in_err-master_of.ensures ∙ sym (standing_master _ _ one (sym c.master_of.ensures ∙ c.in_err-master_of.was))
 
 pub returns : goal.returns
 returns c =
-    let t = c in
-    rw (c.master_of.ensures, c.holder_of.ensures)
-    (sym (standing_known _ _ t.if-bus-ne1.false t.if-bus-gt-LAST.false t.if-master-lt1.false
-    t.if-master.false))
+    let one : length c.args.bus.now ≡ 1 = omega arith in
+    sym
+    (standing_both _ _ one _ _ (sym c.holder_of.ensures ∙ c.in_ok-holder_of.was)
+    (sym c.master_of.ensures ∙ c.in_ok-master_of.was))
