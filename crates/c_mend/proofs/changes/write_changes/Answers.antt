@@ -1,7 +1,7 @@
 -- SPDX-License-Identifier: Apache-2.0
 -- `c_mend::changes::write_changes` meets its contract. The loop's invariant: what was written and what is still to come are
 -- the whole list. The measure is what is left.
-use Prim.Native.Nat.{◌-◌, ◌+◌}
+use Prim.Native.Nat.{◌+◌}
 use mathlib.Core.Path.{refl}
 use native.Mathlib.Omega.{arith}
 use lib.ListN.{drop, get_or}
