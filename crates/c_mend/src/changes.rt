@@ -18,9 +18,8 @@ fn note(changes: &mut [u8], at: usize, number: u8, old: u8, new: u8) -> usize
 }
 
 // Writes the list of those registers, from 02h on, in which two lists of bytes differ; returns how many bytes it has.
-pub(crate) fn write_changes(before: &[u8], after: &[u8], changes: &mut [u8]) -> usize
-    requires before_len_bound { (length before.now ≤ 7) × (length before.now ≡ length after.now) }
-    requires after_in_bounds { length (changes_from 2 before.now after.now) ≤ length changes.old }
+pub(crate) fn write_changes(before: &[u8; 7], after: &[u8; 7], changes: &mut [u8]) -> usize
+    requires { length (changes_from 2 before.now after.now) ≤ length changes.old }
     ensures { WrittenAt (changes_from 2 before.now after.now) 0
         changes.old result changes.new }
 {
@@ -32,7 +31,7 @@ pub(crate) fn write_changes(before: &[u8], after: &[u8], changes: &mut [u8]) -> 
 }
 
 // In how many places two lists of bytes differ.
-pub(crate) fn count_changes(before: &[u8], after: &[u8]) -> usize
+pub(crate) fn count_changes(before: &[u8; 7], after: &[u8; 7]) -> usize
     ensures { result ≡ count_by (λ p. not (p.0 == p.1)) (zip before.now after.now) }
 {
     before

@@ -46,11 +46,7 @@ returns-then-changes-count c =
 
 pub write_changes-requires : goal.write_changes-requires
 write_changes-requires c =
-    record {
-      before_len_bound = search rules;
-      after_in_bounds =
-          room_of_count _ _ c.args.changes.now _ (c.count_changes-count.ensures ∙ counted _ _) c.if-changes-count.false;
-    }
+    room_of_count _ _ c.args.changes.now _ (c.count_changes-count.ensures ∙ counted _ _) c.if-changes-count.false
 
 pub write_image-requires : goal.write_image-requires
 write_image-requires c =
