@@ -34,15 +34,15 @@ returns-in_err-state c =
 
 pub overflow_mul-count : goal.overflow_mul-count
 overflow_mul-count c =
-    let few = counted_few _ _ _ _ c.mended_state-mended.ensures c.time_bytes-before.ensures c.time_bytes-after.ensures c.count_changes-count.ensures in
+    let few = counted_few c.in_ok-state.state _ _ _ c.mended_state-mended.ensures c.time_bytes-before.ensures c.time_bytes-after.ensures c.count_changes-count.ensures in
     search rules
 
 pub returns-then-changes-count : goal.returns-then-changes-count
 returns-then-changes-count c =
     let d : decode_of c.args.image.now ≡ Some c.in_ok-state.state =
     settled_decode _ _ c.decode.ensures ∙ c.ok_or.ensures.ok_part ∙ ap result_ok c.in_ok-state.was in
-    let l = counted_length _ _ _ _ c.mended_state-mended.ensures c.time_bytes-before.ensures c.time_bytes-after.ensures c.count_changes-count.ensures in
-    sym (mend_short _ _ _ d (omega (arith, c.if-changes-count.true, l)))
+    let l = counted_length c.in_ok-state.state _ _ _ c.mended_state-mended.ensures c.time_bytes-before.ensures c.time_bytes-after.ensures c.count_changes-count.ensures in
+    sym (mend_short _ _ c.in_ok-state.state d (omega (arith, c.if-changes-count.true, l)))
 
 pub write_changes-requires : goal.write_changes-requires
 write_changes-requires c =
@@ -62,6 +62,6 @@ returns c =
     let b = c.time_bytes-before.ensures in
     let a = c.time_bytes-after.ensures in
     let n = c.count_changes-count.ensures in
-    let l = counted_length _ _ _ _ m b a n in
-    mend_done _ _ _ d _ c.write_changes.result _ _ (omega (arith, c.if-changes-count.false, l)) (counted_by_lem _ _ _ _ m b a n)
-    (listed_by _ _ _ _ m b a c.write_changes.ensures) (c.write_image.ensures ∙ ap image_of m)
+    let l = counted_length c.in_ok-state.state _ _ _ m b a n in
+    mend_done _ _ c.in_ok-state.state d _ c.write_changes.result _ _ (omega (arith, c.if-changes-count.false, l)) (counted_by_lem c.in_ok-state.state _ _ _ m b a n)
+    (listed_by c.in_ok-state.state _ _ _ m b a c.write_changes.ensures) (c.write_image.ensures ∙ ap image_of m)
