@@ -17,7 +17,7 @@ pub mod select;
 mod turns;
 
 // Which supplies are present: main power; backup alone; none.
-#[derive(Clone, Copy)]
+#[derive(Clone, Copy, Debug, PartialEq, Eq)]
 pub enum Power {
     On,
     Backup,
@@ -25,7 +25,7 @@ pub enum Power {
 }
 
 // A one-second tick, or an edge on one of the counter inputs.
-#[derive(Clone, Copy)]
+#[derive(Clone, Copy, Debug, PartialEq, Eq)]
 pub enum Beat {
     Second,
     Cnt1,
@@ -33,7 +33,7 @@ pub enum Beat {
 }
 
 // A part without its memory, which the caller lends, and without its companion.
-#[derive(Clone, Copy)]
+#[derive(Clone, Copy, Debug, PartialEq, Eq)]
 pub struct Bus {
     pub power: Power,
     pub phase: Phase,
@@ -41,14 +41,25 @@ pub struct Bus {
 }
 
 // What the companion replies: whether it acknowledges the byte, and the byte that it sends.
-#[derive(Clone, Copy)]
+// Stays (plain): the two answer different questions, of a byte from the master and of one to it, and neither is the other's flag.
+#[derive(Clone, Copy, Debug, PartialEq, Eq)]
 pub struct Reply {
     pub good: bool,
     pub byte: u8,
 }
 
-// What an event leaves: the next bus, and the line.
+// What a part hands over with an event: the size of its memory, its select bits, the protection bits, and its companion's reply.
 #[derive(Clone, Copy)]
+pub(crate) struct Part {
+    size: u16,
+    select: u8,
+    guard: u8,
+    reply: Reply,
+}
+
+// What an event leaves: the next bus, and the line.
+// Stays (plain): every event leaves both, whatever the line is.
+#[derive(Clone, Copy, Debug, PartialEq, Eq)]
 pub struct Went {
     pub bus: Bus,
     pub line: bool,

@@ -3,7 +3,7 @@
 -- hollow companion (law `split`).
 --   at_last, at_ends, clock_deed, deed_of   what is asked
 --   Served, served_of                    the companion, and its reply
-use Rattle.std.specs.Prelude.{ℕ, Bool, true}
+use Rattle.std.specs.Prelude.{ℕ, Bool, true, Option, Some, None}
 use Rattle.wire.specs.Bits.{pushed, Place, first, within, last, ack, place_at}
 use Rattle.wire.specs.Clock.{Taken}
 use Rattle.wire.specs.Machine.{Line, start, stop, clock}
@@ -17,6 +17,9 @@ use Rattle.bus.specs.declared.Power.TheVariants.{On, Backup, Off}
 use Rattle.bus_deeds.specs.declared.Deed.{Deed}
 use Rattle.bus_deeds.specs.declared.Deed.TheVariants as deed
 use Rattle.bus.specs.declared.Reply.{Reply}
+use Rattle.bus.specs.declared.Beat.{Beat}
+use Rattle.bus_deeds.specs.declared.serve.Taken as taken
+use Rattle.bus_deeds.specs.declared.serve.Served as served
 
 -- Auxiliary: at the eighth clock of a byte that comes in; at the first and the eighth of one that goes out.
 unfoldable pub at_last : Place → Deed → Deed
@@ -60,24 +63,64 @@ deed_of Backup p gone = deed.Lost
 deed_of Backup p returned = deed.Returned
 deed_of Off p x = deed.Nothing
 
-module _ (D : Desks) where
-  pub record Served : Type 0 where
-    pub next : D.Desk
-    pub reply : Reply
+-- A companion's functions, as an event asks for them.
+pub record Ways (C : Type 0) : Type 0 where
+  pub aim : C → ℕ → Taken C
+  pub store : C → ℕ → Taken C
+  pub load : C → ℕ
+  pub loaded : C → ℕ → C
+  pub beaten : Beat → C → C
+  pub backed : C → C
+  pub lost : C → C
+  pub returned : C → C
 
-  abbrev pub quiet : D.Desk → Served
-  quiet c = record { next = c; reply = record { good = true; byte = 0 } }
+abbrev pub ways_of : (D : Desks) → Ways D.Desk
+ways_of D =
+    record {
+      aim = D.aim;
+      store = D.store;
+      load = D.load;
+      loaded = D.loaded;
+      beaten = D.ticked;
+      backed = D.backed;
+      lost = D.lost;
+      returned = D.returned;
+    }
 
-  abbrev pub took_of : Taken D.Desk → Served
-  took_of t = record { next = t.next; reply = record { good = t.good; byte = 0 } }
+-- The companion once it did what it was asked, and its reply.
+pub record Served (C : Type 0) : Type 0 where
+  pub next : C
+  pub reply : Reply
 
-  abbrev pub served_of : Deed → D.Desk → Served
-  served_of deed.Nothing c = quiet c
-  served_of (deed.Aim b) c = took_of (D.aim c b)
-  served_of (deed.Store b) c = took_of (D.store c b)
-  served_of deed.Load c = record { next = c; reply = record { good = true; byte = D.load c } }
-  served_of (deed.Loaded b) c = quiet (D.loaded c b)
-  served_of (deed.Beat t) c = quiet (D.ticked t c)
-  served_of deed.Backed c = quiet (D.backed c)
-  served_of deed.Lost c = quiet (D.lost c)
-  served_of deed.Returned c = quiet (D.returned c)
+abbrev pub quiet : {C : Type 0} → C → Served C
+quiet c = record { next = c; reply = record { good = true; byte = 0 } }
+
+abbrev pub took_of : {C : Type 0} → Taken C → Served C
+took_of t = record { next = t.next; reply = record { good = t.good; byte = 0 } }
+
+abbrev pub served_with : {C : Type 0} → Ways C → Deed → C → Served C
+served_with W deed.Nothing c = quiet c
+served_with W (deed.Aim b) c = took_of (W.aim c b)
+served_with W (deed.Store b) c = took_of (W.store c b)
+served_with W deed.Load c = record { next = c; reply = record { good = true; byte = W.load c } }
+served_with W (deed.Loaded b) c = quiet (W.loaded c b)
+served_with W (deed.Beat t) c = quiet (W.beaten t c)
+served_with W deed.Backed c = quiet (W.backed c)
+served_with W deed.Lost c = quiet (W.lost c)
+served_with W deed.Returned c = quiet (W.returned c)
+
+abbrev pub served_of : (D : Desks) → Deed → D.Desk → Served D.Desk
+served_of D = served_with (ways_of D)
+
+-- Auxiliary: what taking a byte leaves, as the machine asks for it.
+abbrev pub taken_of : {C : Type 0} → taken.Taken C → Taken C
+taken_of t = record { next = t.companion; good = t.acknowledged }
+
+-- A beat tells; nothing else that is asked does.
+abbrev pub told_by : {C T : Type 0} → (Beat → C → T) → Deed → C → Option T
+told_by told (deed.Beat t) c = Some (told t c)
+told_by told q c = None
+
+-- Auxiliary: the two together, as the code returns them.
+abbrev pub saying : {C T : Type 0} → Served C → Option T → served.Served C T
+saying v w = record { companion = v.next; reply = v.reply; told = w }

@@ -2,7 +2,7 @@
 // What the images of all parts have in common.
 //
 // bytes   bytes cleared, copied, compared
-// layout  the supplies and the phase as numbers, and back
+// layout  the supplies and the phase as numbers, and back; a bus at its places
 // phases  these numbers
 // places  where they lie
 #![tactic(auto)]
@@ -14,7 +14,7 @@ pub mod places;
 
 // Where a transfer stands, as four bytes of an image: the phase's number, the clocks done, the byte, and the first
 // address byte of a memory write whose second is under way.
-#[derive(Clone, Copy)]
+#[derive(Clone, Copy, Debug, PartialEq, Eq)]
 pub struct Transfer {
     pub phase: u8,
     pub clocks: u8,

@@ -19,14 +19,7 @@ fn bits_fit(clocks: u8, byte: u8) -> bool
     ensures { result ≡ bits_fit clocks byte }
 {
     match clocks {
-        0 => byte < 1,
-        1 => byte < 2,
-        2 => byte < 4,
-        3 => byte < 8,
-        4 => byte < 16,
-        5 => byte < 32,
-        6 => byte < 64,
-        7 => byte < 128,
+        0..=7 => byte >> clocks == 0,
         8 => true,
         _ => false,
     }
@@ -36,32 +29,21 @@ fn bits_fit(clocks: u8, byte: u8) -> bool
 fn slave_within(select: u8, clocks: u8, byte: u8) -> bool
     ensures { (first last : ℕ) → result ≡ phase_within (slave_names_for select) (is_between first last) (Slave clocks byte) }
 {
-    let fit = bits_fit(clocks, byte);
-    if clocks == 8 {
-        return fit & answers(names_for(select, byte));
-    }
-    fit
+    bits_fit(clocks, byte) & ((clocks != 8) | answers(names_for(select, byte)))
 }
 
 // A companion address byte that waits for its acknowledge is a register's.
 fn pointer_within(select: u8, first: u8, last: u8, clocks: u8, byte: u8) -> bool
     ensures { result ≡ phase_within (slave_names_for select) (is_between first last) (Pointer clocks byte) }
 {
-    let fit = bits_fit(clocks, byte);
-    if clocks == 8 {
-        return fit & ((first <= byte) & (byte <= last));
-    }
-    fit
+    bits_fit(clocks, byte) & ((clocks != 8) | ((first <= byte) & (byte <= last)))
 }
 
 // A byte that goes out is 0 before its first clock.
 fn read_within(select: u8, side: Side, clocks: u8, byte: u8) -> bool
     ensures { (first last : ℕ) → result ≡ phase_within (slave_names_for select) (is_between first last) (Read side clocks byte) }
 {
-    if clocks == 0 {
-        return byte == 0;
-    }
-    clocks <= 8
+    (clocks <= 8) & ((clocks != 0) | (byte == 0))
 }
 
 // The limits of each phase.
@@ -71,18 +53,10 @@ pub fn phase_within(select: u8, first: u8, last: u8, phase: Phase) -> bool
     match phase {
         Phase::Idle => true,
         Phase::Slave { clocks, byte } => slave_within(select, clocks, byte),
-        Phase::AddressHigh { clocks, byte } => bits_fit(clocks, byte),
-        Phase::AddressLow {
-            high: _,
-            clocks,
-            byte,
-        } => bits_fit(clocks, byte),
         Phase::Pointer { clocks, byte } => pointer_within(select, first, last, clocks, byte),
-        Phase::Write {
-            side: _,
-            clocks,
-            byte,
-        } => bits_fit(clocks, byte),
+        Phase::AddressHigh { clocks, byte }
+        | Phase::AddressLow { clocks, byte, .. }
+        | Phase::Write { clocks, byte, .. } => bits_fit(clocks, byte),
         Phase::Read { side, clocks, byte } => read_within(select, side, clocks, byte),
     }
 }
@@ -91,27 +65,7 @@ pub fn phase_within(select: u8, first: u8, last: u8, phase: Phase) -> bool
 pub fn is_idle(phase: Phase) -> bool
     ensures { result ≡ is_idle phase }
 {
-    match phase {
-        Phase::Idle => true,
-        Phase::Slave { clocks: _, byte: _ } => false,
-        Phase::AddressHigh { clocks: _, byte: _ } => false,
-        Phase::AddressLow {
-            high: _,
-            clocks: _,
-            byte: _,
-        } => false,
-        Phase::Pointer { clocks: _, byte: _ } => false,
-        Phase::Write {
-            side: _,
-            clocks: _,
-            byte: _,
-        } => false,
-        Phase::Read {
-            side: _,
-            clocks: _,
-            byte: _,
-        } => false,
-    }
+    matches!(phase, Phase::Idle)
 }
 
 // A transfer exists only while main power is present.
@@ -120,8 +74,7 @@ pub fn power_within(power: Power, phase: Phase) -> bool
 {
     match power {
         Power::On => true,
-        Power::Backup => is_idle(phase),
-        Power::Off => is_idle(phase),
+        Power::Backup | Power::Off => is_idle(phase),
     }
 }
 
@@ -129,7 +82,7 @@ pub fn power_within(power: Power, phase: Phase) -> bool
 pub fn bus_within(bus: Bus, size: u16, select: u8, first: u8, last: u8) -> bool
     ensures { result ≡ bus_within size select first last bus }
 {
-    let power = bus.power;
-    let phase = bus.phase;
-    (bus.address < size) & phase_within(select, first, last, phase) & power_within(power, phase)
+    (bus.address < size)
+        & phase_within(select, first, last, bus.phase)
+        & power_within(bus.power, bus.phase)
 }

@@ -10,6 +10,7 @@ use native.Mathlib.Omega.{arith}
 use native.Mathlib.Numerals.{add-one}
 use native.Mathlib.Nat.{le_of_suc-le-suc, not-suc-le-zero}
 use lib.Dec.{leb}
+use Rattle.std.proofs.Common.{fold}
 use lib.ListN.{length, take, drop, get_or, set, drop_of_length-le, take-append-drop}
 use lib.Seq.{take-suc-set, drop-cons, drop-set-lt, drop-drop}
 use borrow.Author.Tests.{leb-true}
@@ -18,16 +19,10 @@ use Rattle.bus_list.specs.Run.{Stepped, Ended, following, run_of, RanThrough, al
 
 -- the test of the events: what was seen of them, and the rest
 module _ (last : ℕ) where
-  module _ (es : List ℕ) (i : ℕ) (k : Bool) where
-    pub known_more : i < length es
-        → ((k && leb (get_or es i 0) last) && all_known last (drop (i + 1) es)) ≡ (k && all_known last (drop i es))
-    unfolding all_known
-    known_more h =
-        rw (add-one, drop-cons es i 0) (and_assoc k (leb (get_or es i 0) last) (all_known last (drop (suc i) es)))
-
-    pub known_end : length es ≤ i → (k && all_known last (drop i es)) ≡ k
-    unfolding all_known
-    known_end h = rw (drop_of_length-le es h) (and-true k)
+  pub known_fold : (k : Bool) (es : List ℕ) → fold (λ k e. k && leb e last) k es ≡ (k && all_known last es)
+  unfolding all_known
+  known_fold k [] = sym (and-true k)
+  known_fold k (e ∷ es) = known_fold (k && leb e last) es ∙ and_assoc k (leb e last) (all_known last es)
 
   pub known_at : (es : List ℕ) → all_known last es ≡ true → (i : ℕ) → i < length es → get_or es i 0 ≤ last
   unfolding all_known

@@ -11,6 +11,7 @@ use lib.Dec.{leb}
 use lib.IntN.{ℤ, pos}
 use mir.Syntax.{w32}
 use mir.Val.{SFits, to_z, of_z}
+use Rattle.std.specs.Prelude.{Result, Ok, Err}
 use Rattle.c_trim.specs.Residue.{in_range, last_code, Coded, residue_of, distance_of}
 use Rattle.c_trim.specs.Verdict.{CheckSettled}
 use Rattle.c_trim.specs.Proposal.{setting_for, proposal_of}
@@ -22,8 +23,7 @@ use Rattle.c_trim.specs.declared.Sign.TheVariants.{Plus, Minus}
 use Rattle.c_trim.specs.declared.Setting.{Setting}
 use Rattle.c_trim.specs.declared.Verdict.{Verdict}
 use Rattle.c_trim.specs.declared.Verdict.TheVariants.{Accepted, NotNearest, ErrorOutOfRange, CodeAbove31}
-use Rattle.c_trim.specs.declared.Named.{Named}
-use Rattle.c_trim.specs.declared.Named.TheVariants.{Known, UnknownSign}
+use Rattle.c_trim.specs.declared.UnknownSign.{UnknownSign}
 use Rattle.c_trim.proofs.Signed.{read_back, read_result}
 use Rattle.c_trim.proofs.Left.{left_small}
 use Rattle.c_trim.proofs.Proposals.{setting_coded, setting_acceptable, proposal_in_range, proposal_out_of_range}
@@ -46,22 +46,22 @@ pub verdict_number_inj : (v w : Verdict) → verdict_number v ≡ verdict_number
 verdict_number_inj v w q = sym (verdict_at_number v) ∙ ap verdict_at q ∙ verdict_at_number w
 
 -- the number of a verdict on what was named
-pub told_known : {e : ℤ} (x : Named) {s : Setting} (v : Verdict) {n : ℕ} → SFits w32 e → x ≡ Known s
+pub told_known : {e : ℤ} (x : Result Setting UnknownSign) {s : Setting} (v : Verdict) {n : ℕ} → SFits w32 e → x ≡ Ok s
     → CheckSettled (to_z w32 (of_z w32 e)) s v → n ≡ verdict_number v → Told e x n
 told_known {e} x {s} v {n} f q p m =
-    subst (λ (y : Named). Told e y n) (sym q) (v, subst (λ (z : ℤ). CheckSettled z s v) (read_back f) p, m)
+    subst (λ (y : Result Setting UnknownSign). Told e y n) (sym q) (v, subst (λ (z : ℤ). CheckSettled z s v) (read_back f) p, m)
 
-pub told_unknown : (e : ℤ) (x : Named) → x ≡ UnknownSign → Told e x unknown_sign
-told_unknown e x q = rw q
+pub told_unknown : (e : ℤ) (x : Result Setting UnknownSign) (u : UnknownSign) → x ≡ Err u → Told e x unknown_sign
+told_unknown e x u q = rw q
 
 -- ---- a setting's number
 
-pub named_by : (g : Sign) (k x y : ℕ) → x ≡ sign_number g → y ≡ k → setting_of x y ≡ Known (record { sign = g; code = k })
+pub named_by : (g : Sign) (k x y : ℕ) → x ≡ sign_number g → y ≡ k → setting_of x y ≡ Ok (record { sign = g; code = k })
 unfolding setting_of
 named_by Plus k x y p q = rw (p, q)
 named_by Minus k x y p q = rw (p, q)
 
-pub named_unknown : (x y : ℕ) → (x ≡ sign_number Plus → ⊥) → (x ≡ sign_number Minus → ⊥) → setting_of x y ≡ UnknownSign
+pub named_unknown : (x y : ℕ) → (x ≡ sign_number Plus → ⊥) → (x ≡ sign_number Minus → ⊥) → setting_of x y ≡ Err (record {})
 unfolding setting_of
 named_unknown x y p q = rw (ne_eqb x 1 p, ne_eqb x 0 q)
 
@@ -73,7 +73,7 @@ number_code : (g : Sign) (k : ℕ) → k ≤ last_code → (32 * sign_number g +
 number_code Plus k h = omega arith
 number_code Minus k h = omega arith
 
-pub setting_number_named : (s : Setting) → Coded s → setting_of (setting_number s / 32) (setting_number s % 32) ≡ Known s
+pub setting_number_named : (s : Setting) → Coded s → setting_of (setting_number s / 32) (setting_number s % 32) ≡ Ok s
 setting_number_named s h =
     named_by s.sign s.code (setting_number s / 32) (setting_number s % 32) (number_sign s.sign s.code h)
     (number_code s.sign s.code h)
@@ -106,7 +106,7 @@ pub shown_small : (e : ℤ) (s : Setting) → distance_of (residue_shown e s) < 
 unfolding residue_shown
 shown_small e s = shown_small_by e s (in_range e) (leb s.code last_code) refl refl
 
-pub residue_named : {e : ℤ} (x : Named) {s : Setting} (z : ℤ) → SFits w32 e → x ≡ Known s
+pub residue_named : {e : ℤ} (x : Result Setting UnknownSign) {s : Setting} (z : ℤ) → SFits w32 e → x ≡ Ok s
     → z ≡ residue_shown (to_z w32 (of_z w32 e)) s → to_z w32 (of_z w32 z) ≡ named_residue e x
 residue_named {e} x {s} z f q p =
     read_result z (p ∙ ap (λ (y : ℤ). residue_shown y s) (read_back f)) (shown_small e s) ∙ sym (ap (named_residue e) q)

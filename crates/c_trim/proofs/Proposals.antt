@@ -7,16 +7,16 @@ use mathlib.Core.Path.{◌≡◌, refl, ap, subst, ◌∙◌}
 use mathlib.Core.Bool.{Bool, true, false, cond}
 use native.Mathlib.Omega.{arith}
 use native.Mathlib.Nat.{mul-le-mul_right, div-mul-le_self, lt-div-mul-add}
-use borrow.Author.Tests.{ltb-true, ltb-false, lt-ltb, le-ltb}
+use borrow.Author.Tests.{ltb-true, ltb-false}
 use lib.Dec.{T, ltb}
 use lib.IntN.{ℤ, pos, negsuc}
 use lib.Signed.{lt_z}
+use Rattle.std.specs.Prelude.{Some, None}
 use Rattle.c_trim.specs.Residue.{in_range, last_code, Coded, distance_of, distance_left}
 use Rattle.c_trim.specs.Verdict.{Acceptable}
 use Rattle.c_trim.specs.Proposal.{rounded_of, setting_for, proposal_of, AlwaysAccepted}
 use Rattle.c_trim.specs.declared.Sign.TheVariants.{Plus, Minus}
 use Rattle.c_trim.specs.declared.Setting.{Setting}
-use Rattle.c_trim.specs.declared.Proposal.TheVariants.{Proposed, Refused}
 use Rattle.c_trim.proofs.Signed.{apart}
 use Rattle.c_trim.proofs.Left.{left_le}
 use Rattle.c_trim.proofs.Least.{Beside}
@@ -56,15 +56,6 @@ rounded_coded_by q false h = h refl
 rounded_coded : (t n : ℕ) → rounded_of t n ≤ last_code
 unfolding rounded_of
 rounded_coded t n = let q = (n + t / 2) / t in rounded_coded_by q (ltb last_code q) (ltb-false last_code q)
-
--- the code's test is the definition's
-pub rounded_past : (t n : ℕ) → last_code < (n + t / 2) / t → rounded_of t n ≡ last_code
-unfolding rounded_of
-rounded_past t n h = rw (lt-ltb last_code ((n + t / 2) / t) h)
-
-pub rounded_within : (t n : ℕ) → (n + t / 2) / t ≤ last_code → rounded_of t n ≡ (n + t / 2) / t
-unfolding rounded_of
-rounded_within t n h = rw (le-ltb last_code ((n + t / 2) / t) h)
 
 -- ---- our setting
 
@@ -109,20 +100,20 @@ setting_acceptable e q =
 
 -- ---- our proposal
 
-pub proposal_in_range : (e : ℤ) → in_range e ≡ true → proposal_of e ≡ Proposed (setting_for e)
+pub proposal_in_range : (e : ℤ) → in_range e ≡ true → proposal_of e ≡ Some (setting_for e)
 unfolding proposal_of
 proposal_in_range e q = rw q
 
-pub proposal_out_of_range : (e : ℤ) → in_range e ≡ false → proposal_of e ≡ Refused
+pub proposal_out_of_range : (e : ℤ) → in_range e ≡ false → proposal_of e ≡ None
 unfolding proposal_of
 proposal_out_of_range e q = rw q
 
 -- what is proposed has a code
-proposed_coded_by : (e : ℤ) (s : Setting) (b : Bool) → cond b (Proposed (setting_for e)) Refused ≡ Proposed s → Coded s
+proposed_coded_by : (e : ℤ) (s : Setting) (b : Bool) → cond b (Some (setting_for e)) None ≡ Some s → Coded s
 proposed_coded_by e s true q = let n : setting_for e ≡ s = cc in subst Coded n (setting_coded e)
 proposed_coded_by e s false q = let z : ◌≡◌ {A = ℕ} 0 1 = cc in absurd (omega arith)
 
-pub proposed_coded : (e : ℤ) (s : Setting) → proposal_of e ≡ Proposed s → Coded s
+pub proposed_coded : (e : ℤ) (s : Setting) → proposal_of e ≡ Some s → Coded s
 unfolding proposal_of
 proposed_coded e s q = proposed_coded_by e s (in_range e) q
 

@@ -9,6 +9,7 @@ use mathlib.Core.Logic.{◌↔◌}
 use native.Mathlib.Omega.{arith}
 use lib.Dec.{T}
 use lib.IntN.{ℤ}
+use Rattle.std.specs.Prelude.{Option, Result, Ok, Err}
 use Rattle.c_trim.specs.Residue.{in_range, Coded}
 use Rattle.c_trim.specs.Verdict.{Nearest, Acceptable, CheckSettled}
 use Rattle.c_trim.specs.Proposal.{ProposeSettled}
@@ -17,9 +18,7 @@ use Rattle.c_trim.specs.Entries.{CheckNumberSettled, ResidueSettled, ProposeNumb
 use Rattle.c_trim.specs.declared.Setting.{Setting}
 use Rattle.c_trim.specs.declared.Verdict.{Verdict}
 use Rattle.c_trim.specs.declared.Verdict.TheVariants.{Accepted, NotNearest, ErrorOutOfRange, CodeAbove31}
-use Rattle.c_trim.specs.declared.Proposal.{Proposal}
-use Rattle.c_trim.specs.declared.Named.{Named}
-use Rattle.c_trim.specs.declared.Named.TheVariants.{Known, UnknownSign}
+use Rattle.c_trim.specs.declared.UnknownSign.{UnknownSign}
 
 -- ---- the checker, one verdict after the other
 
@@ -77,13 +76,13 @@ accepted_exactly e s v p = ((λ q. subst (CheckSettled e s) q p), (λ a. accepte
 unique : {A : Type 0} {x y d : A} → x ≡ d → y ≡ d → x ≡ y
 unique p q = p ∙ sym q
 
-pub propose_unique : (e : ℤ) (p p₂ : Proposal) → ProposeSettled e p → ProposeSettled e p₂ → p ≡ p₂
+pub propose_unique : (e : ℤ) (p p₂ : Option Setting) → ProposeSettled e p → ProposeSettled e p₂ → p ≡ p₂
 propose_unique e p p₂ h k = unique h k
 
-told_unique : (e : ℤ) (x : Named) (n n₂ : ℕ) → Told e x n → Told e x n₂ → n ≡ n₂
-told_unique e (Known s) n n₂ p q =
+told_unique : (e : ℤ) (x : Result Setting UnknownSign) (n n₂ : ℕ) → Told e x n → Told e x n₂ → n ≡ n₂
+told_unique e (Ok s) n n₂ p q =
     p.2 ∙ ap verdict_number (check_unique e s p.0 q.0 p.1 q.1) ∙ sym q.2
-told_unique e UnknownSign n n₂ p q = unique p q
+told_unique e (Err u) n n₂ p q = unique p q
 
 pub check_number_unique : (e : ℤ) (g k n n₂ : ℕ) → CheckNumberSettled e g k n → CheckNumberSettled e g k n₂ → n ≡ n₂
 check_number_unique e g k n n₂ p q = told_unique e (setting_of g k) n n₂ p q

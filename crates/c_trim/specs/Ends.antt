@@ -4,12 +4,11 @@
 --   Inside, Outside    an error in the range, and outside it; `negsuc n` is the number -(n + 1)
 --   RangeEnds          what the checker and the proposer say at its ends
 --   CodeEnds           and what the checker says of codes
-use Rattle.std.specs.Prelude.{◌≤◌, ◌<◌, ◌≡◌, ℤ, pos, negsuc}
+use Rattle.std.specs.Prelude.{◌≤◌, ◌<◌, ◌≡◌, ℤ, pos, negsuc, None}
 use Rattle.c_trim.specs.Verdict.{CheckSettled}
 use Rattle.c_trim.specs.Proposal.{proposal_of}
 use Rattle.c_trim.specs.declared.Setting.{Setting}
 use Rattle.c_trim.specs.declared.Verdict.TheVariants.{ErrorOutOfRange, CodeAbove31}
-use Rattle.c_trim.specs.declared.Proposal.TheVariants.{Refused}
 
 abbrev pub Inside : ℤ → Type 0
 Inside (pos n) = n ≤ 20000
@@ -23,8 +22,8 @@ Outside (negsuc n) = 20000 ≤ n
 pub record RangeEnds : Type 0 where
   pub outside : (e : ℤ) (s : Setting) → Outside e → CheckSettled e s ErrorOutOfRange
   pub inside : (e : ℤ) (s : Setting) → Inside e → CheckSettled e s ErrorOutOfRange → ⊥
-  pub unproposed : (e : ℤ) → Outside e → proposal_of e ≡ Refused
-  pub proposed : (e : ℤ) → Inside e → proposal_of e ≡ Refused → ⊥
+  pub unproposed : (e : ℤ) → Outside e → proposal_of e ≡ None
+  pub proposed : (e : ℤ) → Inside e → proposal_of e ≡ None → ⊥
 
 pub record CodeEnds : Type 0 where
   pub above : (e : ℤ) (s : Setting) → Inside e → 31 < s.code → CheckSettled e s CodeAbove31

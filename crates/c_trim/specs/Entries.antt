@@ -1,11 +1,11 @@
 -- SPDX-License-Identifier: Apache-2.0
 -- Checker, residue and proposer as C sees them, all in numbers (02, number 9: "Let any program propose a setting").
---   sign_number, setting_of              a sign and a code as numbers
+--   sign_number, SignOf, setting_of      a sign and a code as numbers
 --   verdict_number, unknown_sign         the checker's number       CheckNumberSettled     its whole outcome
 --   residue_shown                       what a setting leaves      ResidueSettled         its whole outcome
 --   setting_number, proposal_number      the proposer's number      ProposeNumberSettled   its whole outcome
 --   AcceptedInNumbers                  the theorem about them
-use Rattle.std.specs.Prelude.{ℕ, ◌+◌, ◌*◌, ◌/◌, ◌%◌, ◌≡◌, true, cond, ◌&&◌, leb, eqb, ℤ, pos}
+use Rattle.std.specs.Prelude.{ℕ, ◌+◌, ◌*◌, ◌/◌, ◌%◌, ◌≡◌, true, cond, ◌&&◌, leb, eqb, ℤ, pos, Option, Some, None, Result, Ok, Err, MatchResult}
 use Rattle.c_trim.specs.Residue.{in_range, last_code, residue_of}
 use Rattle.c_trim.specs.Verdict.{CheckSettled}
 use Rattle.c_trim.specs.Proposal.{proposal_of}
@@ -14,22 +14,23 @@ use Rattle.c_trim.specs.declared.Sign.TheVariants.{Plus, Minus}
 use Rattle.c_trim.specs.declared.Setting.{Setting}
 use Rattle.c_trim.specs.declared.Verdict.{Verdict}
 use Rattle.c_trim.specs.declared.Verdict.TheVariants.{Accepted, NotNearest, ErrorOutOfRange, CodeAbove31}
-use Rattle.c_trim.specs.declared.Proposal.{Proposal}
-use Rattle.c_trim.specs.declared.Proposal.TheVariants.{Proposed, Refused}
-use Rattle.c_trim.specs.declared.Named.{Named}
-use Rattle.c_trim.specs.declared.Named.TheVariants.{Known, UnknownSign}
+use Rattle.c_trim.specs.declared.UnknownSign.{UnknownSign}
 
 -- Document 002: "Bit D5 is a Sign bit; '1' indicates positive calibration, '0' indicates negative calibration."
 abbrev pub sign_number : Sign → ℕ
 sign_number Plus = 1
 sign_number Minus = 0
 
+-- Auxiliary: the sign whose number n is, or none where n is no sign's.
+abbrev pub SignOf : ℕ → Result Sign UnknownSign → Type 0
+SignOf n r = MatchResult r (λ g. n ≡ sign_number g) (λ _. (g : Sign) → n ≡ sign_number g → ⊥)
+
 -- Auxiliary: what a sign g and a code k name.
-unfoldable pub setting_of : ℕ → ℕ → Named
+unfoldable pub setting_of : ℕ → ℕ → Result Setting UnknownSign
 setting_of g k =
     cond (eqb g (sign_number Plus))
-    (Known (record { sign = Plus; code = k }))
-    (cond (eqb g (sign_number Minus)) (Known (record { sign = Minus; code = k })) UnknownSign)
+    (Ok (record { sign = Plus; code = k }))
+    (cond (eqb g (sign_number Minus)) (Ok (record { sign = Minus; code = k })) (Err (record {})))
 
 -- Each verdict has a number (ours).
 abbrev pub verdict_number : Verdict → ℕ
@@ -43,9 +44,9 @@ abbrev pub unknown_sign : ℕ
 unknown_sign = 2
 
 -- Auxiliary: n is the number of the verdict on a setting, or that of a sign that is none.
-abbrev pub Told : ℤ → Named → ℕ → Type 0
-Told e (Known s) n = (v : Verdict) × CheckSettled e s v × (n ≡ verdict_number v)
-Told e UnknownSign n = n ≡ unknown_sign
+abbrev pub Told : ℤ → Result Setting UnknownSign → ℕ → Type 0
+Told e (Ok s) n = (v : Verdict) × CheckSettled e s v × (n ≡ verdict_number v)
+Told e (Err _) n = n ≡ unknown_sign
 
 -- The contract of `fm3130_trim_check`.
 abbrev pub CheckNumberSettled : ℤ → ℕ → ℕ → ℕ → Type 0
@@ -56,9 +57,9 @@ unfoldable pub residue_shown : ℤ → Setting → ℤ
 residue_shown e s = cond (in_range e && leb s.code last_code) (residue_of e s) (pos 0)
 
 -- Auxiliary: the same of what was named.
-abbrev pub named_residue : ℤ → Named → ℤ
-named_residue e (Known s) = residue_shown e s
-named_residue e UnknownSign = pos 0
+abbrev pub named_residue : ℤ → Result Setting UnknownSign → ℤ
+named_residue e (Ok s) = residue_shown e s
+named_residue e (Err _) = pos 0
 
 -- The contract of `fm3130_trim_residue`.
 abbrev pub ResidueSettled : ℤ → ℕ → ℕ → ℤ → Type 0
@@ -69,9 +70,9 @@ abbrev pub setting_number : Setting → ℕ
 setting_number s = 32 * sign_number s.sign + s.code
 
 -- A refusal has the number after the last setting (ours).
-abbrev pub proposal_number : Proposal → ℕ
-proposal_number (Proposed s) = setting_number s
-proposal_number Refused = 64
+abbrev pub proposal_number : Option Setting → ℕ
+proposal_number (Some s) = setting_number s
+proposal_number None = 64
 
 -- The contract of `fm3130_trim_propose`.
 abbrev pub ProposeNumberSettled : ℤ → ℕ → Type 0

@@ -10,43 +10,47 @@ use crate::residue::{distance_left, in_range};
 use crate::{LAST_CODE, Setting, Sign, Verdict};
 
 // The neighbour away from no trim: one step more of the same sign. The last code has none, and gives itself.
+#[tactic(auto, unfolding(crate::specs::Code::Neighbours::further_of))]
 fn further(setting: Setting) -> Setting
     ensures { result ≡ further_of setting }
 {
-    let sign = setting.sign;
     if setting.code < LAST_CODE {
-        return Setting {
-            sign,
+        Setting {
             code: setting.code + 1,
-        };
+            ..setting
+        }
+    } else {
+        setting
     }
-    setting
 }
 
-// The other sign.
-fn opposite(sign: Sign) -> Sign
-    ensures { result ≡ opposite_of sign }
-{
-    match sign {
-        Sign::Plus => Sign::Minus,
-        Sign::Minus => Sign::Plus,
+impl Sign {
+    // The other sign.
+    fn opposite(self) -> Sign
+        ensures { result ≡ opposite_of self }
+    {
+        match self {
+            Sign::Plus => Sign::Minus,
+            Sign::Minus => Sign::Plus,
+        }
     }
 }
 
 // The neighbour on the other side: one step fewer, or from code 0 the first step of the other sign.
+#[tactic(auto, unfolding(crate::specs::Code::Neighbours::back_of))]
 fn back(setting: Setting) -> Setting
     ensures { result ≡ back_of setting }
 {
-    let sign = setting.sign;
     if setting.code == 0 {
-        return Setting {
-            sign: opposite(sign),
+        Setting {
+            sign: setting.sign.opposite(),
             code: 1,
-        };
-    }
-    Setting {
-        sign,
-        code: setting.code - 1,
+        }
+    } else {
+        Setting {
+            code: setting.code - 1,
+            ..setting
+        }
     }
 }
 
@@ -72,7 +76,8 @@ pub fn check(error: i32, setting: Setting) -> Verdict
         return Verdict::CodeAbove31;
     }
     if is_nearest(error, setting) {
-        return Verdict::Accepted;
+        Verdict::Accepted
+    } else {
+        Verdict::NotNearest
     }
-    Verdict::NotNearest
 }

@@ -9,7 +9,7 @@ ghost use Rattle.c_trim.specs.Entries.{CheckNumberSettled, ResidueSettled, Propo
 use crate::checker::check;
 use crate::proposer::propose;
 use crate::residue::{in_range, residue};
-use crate::{LAST_CODE, Named, Proposal, Setting, Sign, Verdict};
+use crate::{LAST_CODE, Setting, Sign, UnknownSign, Verdict};
 
 // The checker's number where the sign is neither plus nor minus: such numbers name no setting, so it is tested first.
 const UNKNOWN_SIGN: u64 = 2;
@@ -18,33 +18,20 @@ const UNKNOWN_SIGN: u64 = 2;
 const REFUSED: u64 = 64;
 
 // The setting that a sign and a code name.
-fn setting_of(sign: u64, code: u64) -> Named
+#[tactic(auto, unfolding(crate::specs::Entries::setting_of))]
+fn setting_of(sign: u64, code: u64) -> Result<Setting, UnknownSign>
     ensures { result ≡ setting_of sign code }
 {
-    if sign == 1 {
-        return Named::Known(Setting {
-            sign: Sign::Plus,
-            code,
-        });
-    }
-    if sign == 0 {
-        return Named::Known(Setting {
-            sign: Sign::Minus,
-            code,
-        });
-    }
-    Named::UnknownSign
+    let sign = Sign::try_from(sign)?;
+    Ok(Setting { sign, code })
 }
 
-// A verdict's number.
-fn verdict_number(verdict: Verdict) -> u64
-    ensures { result ≡ verdict_number verdict }
-{
-    match verdict {
-        Verdict::Accepted => 0,
-        Verdict::NotNearest => 1,
-        Verdict::ErrorOutOfRange => 3,
-        Verdict::CodeAbove31 => 4,
+impl Verdict {
+    // Its number.
+    fn number(self) -> u64
+        ensures { result ≡ verdict_number self }
+    {
+        self as u64
     }
 }
 
@@ -54,8 +41,8 @@ pub extern "C" fn fm3130_trim_check(error: i32, sign: u64, code: u64) -> u64
     ensures { CheckNumberSettled error sign code result }
 {
     match setting_of(sign, code) {
-        Named::Known(setting) => verdict_number(check(error, setting)),
-        Named::UnknownSign => UNKNOWN_SIGN,
+        Ok(setting) => check(error, setting).number(),
+        Err(UnknownSign) => UNKNOWN_SIGN,
     }
 }
 
@@ -63,13 +50,11 @@ pub extern "C" fn fm3130_trim_check(error: i32, sign: u64, code: u64) -> u64
 fn residue_shown(error: i32, setting: Setting) -> i32
     ensures { result ≡ residue_shown error setting }
 {
-    if !in_range(error) {
-        return 0;
+    if in_range(error) && setting.code <= LAST_CODE {
+        residue(error, setting)
+    } else {
+        0
     }
-    if LAST_CODE < setting.code {
-        return 0;
-    }
-    residue(error, setting)
 }
 
 // What a setting leaves of an error, or 0 where the checker's number is a refusal.
@@ -78,20 +63,18 @@ pub extern "C" fn fm3130_trim_residue(error: i32, sign: u64, code: u64) -> i32
     ensures { ResidueSettled error sign code result }
 {
     match setting_of(sign, code) {
-        Named::Known(setting) => residue_shown(error, setting),
-        Named::UnknownSign => 0,
+        Ok(setting) => residue_shown(error, setting),
+        Err(UnknownSign) => 0,
     }
 }
 
-// A setting as document 002's control register holds it: the sign bit, then the five bits of the code.
-fn setting_number(setting: Setting) -> u64
-    requires { Coded setting }
-    ensures { result ≡ setting_number setting }
-{
-    let sign = setting.sign;
-    match sign {
-        Sign::Plus => 32 + setting.code,
-        Sign::Minus => setting.code,
+impl Setting {
+    // A setting as document 002's control register holds it: the sign bit, then the five bits of the code.
+    fn number(self) -> u64
+        requires { Coded self }
+        ensures { result ≡ setting_number self }
+    {
+        32 * (self.sign as u64) + self.code
     }
 }
 
@@ -101,7 +84,7 @@ pub extern "C" fn fm3130_trim_propose(error: i32) -> u64
     ensures { ProposeNumberSettled error result }
 {
     match propose(error) {
-        Proposal::Proposed(setting) => setting_number(setting),
-        Proposal::Refused => REFUSED,
+        Some(setting) => setting.number(),
+        None => REFUSED,
     }
 }

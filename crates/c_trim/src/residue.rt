@@ -9,7 +9,7 @@ use crate::{Setting, Sign};
 pub(crate) fn in_range(error: i32) -> bool
     ensures { result ≡ in_range error }
 {
-    (-20000 <= error) & (error <= 20000)
+    (-20000..=20000).contains(&error)
 }
 
 // So many steps of so many cycles each.
@@ -25,22 +25,23 @@ pub(crate) fn residue(error: i32, setting: Setting) -> i32
     requires { (in_range error ≡ true) × Coded setting }
     ensures { result ≡ residue_of error setting }
 {
-    let sign = setting.sign;
-    match sign {
+    match setting.sign {
         Sign::Plus => error + cycles(setting.code, 512),
         Sign::Minus => error - cycles(setting.code, 256),
     }
 }
 
 // How far a number is from zero: a negative one's distance is its negation. (The least i32 has none.)
+// Stays (fixed): "distance from zero by negation" is a form that is asked for by name.
 pub(crate) fn distance(number: i32) -> u64
     requires { distance_of number < 2 ^ 31 }
     ensures { result ≡ distance_of number }
 {
     if number < 0 {
-        return (-number) as u64;
+        (-number) as u64
+    } else {
+        number as u64
     }
-    number as u64
 }
 
 // How far from zero a setting leaves an error.

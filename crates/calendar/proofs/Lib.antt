@@ -3,7 +3,6 @@
 pub mod Tests
 pub mod Table
 pub mod Field
-pub mod Step
 pub mod Month
 pub mod Digits
 pub mod Valid

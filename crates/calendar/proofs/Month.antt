@@ -1,20 +1,16 @@
 -- SPDX-License-Identifier: Apache-2.0
--- The length of a month in each of its cases, and the limits 28 and 31 of a month that exists. That 31 and 30 take turns, and
--- the limits, are each one test over the definition's list; February's two lengths lie within the limits.
-use mathlib.Core.Path.{◌≡◌, sym}
+-- February's length in both of its cases, and the limits 28 and 31 of a month that exists: one test over the definition's
+-- list; February's two lengths lie within the limits.
+use mathlib.Core.Path.{◌≡◌}
 use mathlib.Core.Bool.{Bool, true, false, ◌&&◌, ◌||◌}
-use Prim.Native.Nat.{ℕ, ◌+◌, ◌/◌, ◌%◌, ◌≤◌, ◌<◌}
+use Prim.Native.Nat.{ℕ, ◌%◌, ◌≤◌}
 use native.Mathlib.Omega.{arith}
 use lib.Dec.{T, eqb, leb, leb→le}
-use lib.ListN.{get_or, get_or-eq_default}
-use borrow.Author.Tests.{eq-eqb, ne_eqb, eqb-true}
+use lib.ListN.{get_or}
+use borrow.Author.Tests.{eq-eqb, ne_eqb}
 use Rattle.calendar.specs.Month.{month_length, common_lengths, pick}
-use Rattle.calendar.proofs.Tests.{and_left, and_right, test_true}
+use Rattle.calendar.proofs.Tests.{and_left, and_right}
 use Rattle.calendar.proofs.Table.{every_at}
-
-pub month_length_none : (m y : ℕ) → 12 < m → 0 ≡ month_length m y
-unfolding month_length
-month_length_none m y h = rw (ne_eqb m 2 (λ e. omega arith)) (sym (get_or-eq_default common_lengths 0 h))
 
 pub month_length_leap : (m y : ℕ) → m ≡ 2 → y % 4 ≡ 0 → 29 ≡ month_length m y
 unfolding month_length
@@ -24,28 +20,8 @@ pub month_length_february : (m y : ℕ) → m ≡ 2 → (y % 4 ≡ 0 → ⊥) �
 unfolding month_length
 month_length_february m y e n = rw (e, ne_eqb (y % 4) 0 n)
 
-pub month_length_zero : (m y : ℕ) → m ≡ 0 → 0 ≡ month_length m y
-unfolding month_length
-month_length_zero m y e = rw e
-
--- the test of an entry: 31 and 30 take turns, from January on and from August on anew, but at month 0 and in February
-takes_turns : ℕ → ℕ → Bool
-takes_turns m x = eqb m 0 || eqb m 2 || eqb (30 + (m + m / 8) % 2) x
-
 or_right : (a b : Bool) → a ≡ false → T (a || b) → T b
 or_right a b e t = rw e at t
-
-turns : (m : ℕ) → m ≤ 12 → (m ≡ 0 → ⊥) → (m ≡ 2 → ⊥) → 30 + (m + m / 8) % 2 ≡ get_or common_lengths m 0
-unfolding takes_turns
-turns m k z n =
-    let t = every_at takes_turns common_lengths tt m (omega arith) in
-    let x = get_or common_lengths m 0 in
-    let none : (eqb m 0 || eqb m 2) ≡ false = rw (ne_eqb m 0 z, ne_eqb m 2 n) in
-    eqb-true (30 + (m + m / 8) % 2) x (test_true _ (or_right (eqb m 0 || eqb m 2) _ none t))
-
-pub month_length_other : (m y : ℕ) → m ≤ 12 → (m ≡ 0 → ⊥) → (m ≡ 2 → ⊥) → 30 + (m + m / 8) % 2 ≡ month_length m y
-unfolding month_length
-month_length_other m y k z n = rw (ne_eqb m 2 n) (turns m k z n)
 
 -- the test of an entry: at least 28, but at month 0, and at most 31
 in_limits : ℕ → ℕ → Bool

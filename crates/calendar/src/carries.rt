@@ -6,23 +6,21 @@ ghost use Rattle.calendar.specs.Highest.{highest_of};
 use crate::Rolled;
 
 // The highest field that took a carry. The seconds take one on every tick.
+#[tactic(auto, unfolding(crate::specs::Highest::highest_of))]
 pub(crate) fn highest(minutes: bool, hours: bool, date: bool, month: bool, year: bool) -> Rolled
     ensures { result ≡ highest_of minutes hours date month year }
 {
     if year {
-        return Rolled::Year;
+        Rolled::Year
+    } else if month {
+        Rolled::Month
+    } else if date {
+        Rolled::Date
+    } else if hours {
+        Rolled::Hours
+    } else if minutes {
+        Rolled::Minutes
+    } else {
+        Rolled::Seconds
     }
-    if month {
-        return Rolled::Month;
-    }
-    if date {
-        return Rolled::Date;
-    }
-    if hours {
-        return Rolled::Hours;
-    }
-    if minutes {
-        return Rolled::Minutes;
-    }
-    Rolled::Seconds
 }

@@ -21,7 +21,7 @@ pub mod starts;
 const CENTURY: u32 = 36525;
 
 // The calendar that many ticks reach, and whether year 99 gave way to 00 on the way.
-#[derive(Clone, Copy)]
+#[derive(Clone, Copy, Debug, PartialEq, Eq)]
 pub struct Reached {
     pub calendar: Calendar,
     pub century: bool,
@@ -29,6 +29,7 @@ pub struct Reached {
 
 // Up to a leap year of ticks of a valid calendar, whose place is known. The day of the week goes on by as many places as
 // there are midnights.
+#[tactic(auto, using(calendar::proofs::Valid::valid_facts, law_century::proofs::Instants::day_below, law_century::proofs::Instants::time_below))]
 pub fn ahead(calendar: Calendar, from: Moment, n: u32) -> Reached
     requires { (T (is_valid calendar)) × (from ≡ moment_of calendar) × (n ≤ most_ticks) }
     ensures { result ≡ after_of n calendar }
@@ -45,16 +46,17 @@ pub fn ahead(calendar: Calendar, from: Moment, n: u32) -> Reached
 
 // What up to a leap year of ticks leaves of any calendar, and whether year 99 gave way to 00 in them. An invalid calendar
 // comes back as it is.
+#[tactic(auto, using(crate::proofs::Later::after_of_invalid))]
 pub fn after(calendar: Calendar, n: u32) -> Reached
     requires { n ≤ most_ticks }
     ensures { result ≡ after_of n calendar }
 {
     if calendar.is_valid() {
-        let from = standing(calendar);
-        return ahead(calendar, from, n);
-    }
-    Reached {
-        calendar: calendar,
-        century: false,
+        ahead(calendar, standing(calendar), n)
+    } else {
+        Reached {
+            calendar,
+            century: false,
+        }
     }
 }

@@ -8,6 +8,7 @@ ghost use Rattle.calendar_days.specs.Code.Places.{moment_of, PlacedAt};
 
 use crate::starts::{month_start, place_of};
 use calendar::Calendar;
+use calendar::fields::{bcd, value};
 
 // Where a valid calendar stands, all counted from 0: its month and its day of the century, and the second of that day.
 #[derive(Clone, Copy)]
@@ -21,7 +22,7 @@ pub struct Moment {
 pub fn number(byte: u8) -> u32
     ensures { (result ≡ value byte) × (result < 256) }
 {
-    byte as u32 / 16 * 10 + byte as u32 % 16
+    u32::from(value(byte))
 }
 
 // The byte whose two decimal digits stand for a number.
@@ -29,7 +30,7 @@ fn digits(number: u32) -> u8
     requires { number < 100 }
     ensures { result ≡ bcd number }
 {
-    (number / 10 * 16 + number % 10) as u8
+    bcd(number as u8)
 }
 
 // The seconds of the day.
@@ -40,6 +41,7 @@ fn time(calendar: Calendar) -> u32
 }
 
 // Where a valid calendar stands.
+#[tactic(auto, using(calendar::proofs::Valid::valid_facts, crate::proofs::Months::month_start_most, crate::proofs::Standing::stood))]
 pub fn standing(calendar: Calendar) -> Moment
     requires { T (is_valid calendar) }
     ensures { result ≡ moment_of calendar }
@@ -47,8 +49,8 @@ pub fn standing(calendar: Calendar) -> Moment
     let month = 12 * number(calendar.year) + (number(calendar.month) - 1);
     let day = month_start(month) + (number(calendar.date) - 1);
     Moment {
-        month: month,
-        day: day,
+        month,
+        day,
         second: time(calendar),
     }
 }
@@ -59,13 +61,11 @@ fn year_of(month: u32) -> u32
     ensures { result ≡ month / 12 % 100 }
 {
     let year = month / 12;
-    if year < 100 {
-        return year;
-    }
-    year - 100
+    if year < 100 { year } else { year - 100 }
 }
 
 // The calendar at a second of a day of this century or the next, on a day of the week.
+#[tactic(auto, using(crate::proofs::Later::date_below, crate::proofs::Later::placed_on))]
 pub(crate) fn at(day: u32, second: u32, weekday: u8) -> Calendar
     requires { (day < 73000) × (second < 86400) }
     ensures { PlacedAt (day * 86400 + second) weekday result }

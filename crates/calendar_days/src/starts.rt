@@ -1,18 +1,13 @@
 // SPDX-License-Identifier: Apache-2.0
 // The start of every month of the century as a day number, and the month that a day is in. Days and months are counted
 // on into the next century.
-//
-// A constant array is made anew on the stack wherever a place of it is asked for that is found only as the program runs.
-// Where every place is known when it is compiled, as in the arms of a `match`, nothing is made: the compiler keeps what
-// the arms return in memory that is only read. So the table is looked up in two steps, the row of a year and the month in
-// it, each a `match`. The constant stands in the function that reads it: lent to it, it would lie on the stack.
 ghost use Rattle.std.specs.Prelude.{◌≡◌, ◌<◌, get_or};
 ghost use Rattle.calendar.specs.Instant.{month_start};
-ghost use Rattle.calendar_days.specs.Table.{table, row_of, entry_of};
+ghost use Rattle.calendar_days.specs.Table.{table, entry_of, IsTable};
 ghost use Rattle.calendar_days.specs.Code.Places.{StandsIn};
 
 // The first day of each of the century's months, the day 01/01/00 being 0: a row for each year.
-const STARTS: [[u16; 12]; 100] = [
+static STARTS: [[u16; 12]; 100] = [
     [0, 31, 60, 91, 121, 152, 182, 213, 244, 274, 305, 335],
     [366, 397, 425, 456, 486, 517, 547, 578, 609, 639, 670, 700],
     [
@@ -311,135 +306,11 @@ const STARTS: [[u16; 12]; 100] = [
     ],
 ];
 
-// The starts of a year's twelve months.
-fn starts_in(year: u32) -> [u16; 12]
-    requires { year < 100 }
-    ensures { result ≡ row_of year }
+// The table. It lies in memory that is only read, and no copy of it is made.
+fn starts() -> &'static [[u16; 12]; 100]
+    ensures { IsTable result.now }
 {
-    let starts = STARTS;
-    match year {
-        0 => starts[0],
-        1 => starts[1],
-        2 => starts[2],
-        3 => starts[3],
-        4 => starts[4],
-        5 => starts[5],
-        6 => starts[6],
-        7 => starts[7],
-        8 => starts[8],
-        9 => starts[9],
-        10 => starts[10],
-        11 => starts[11],
-        12 => starts[12],
-        13 => starts[13],
-        14 => starts[14],
-        15 => starts[15],
-        16 => starts[16],
-        17 => starts[17],
-        18 => starts[18],
-        19 => starts[19],
-        20 => starts[20],
-        21 => starts[21],
-        22 => starts[22],
-        23 => starts[23],
-        24 => starts[24],
-        25 => starts[25],
-        26 => starts[26],
-        27 => starts[27],
-        28 => starts[28],
-        29 => starts[29],
-        30 => starts[30],
-        31 => starts[31],
-        32 => starts[32],
-        33 => starts[33],
-        34 => starts[34],
-        35 => starts[35],
-        36 => starts[36],
-        37 => starts[37],
-        38 => starts[38],
-        39 => starts[39],
-        40 => starts[40],
-        41 => starts[41],
-        42 => starts[42],
-        43 => starts[43],
-        44 => starts[44],
-        45 => starts[45],
-        46 => starts[46],
-        47 => starts[47],
-        48 => starts[48],
-        49 => starts[49],
-        50 => starts[50],
-        51 => starts[51],
-        52 => starts[52],
-        53 => starts[53],
-        54 => starts[54],
-        55 => starts[55],
-        56 => starts[56],
-        57 => starts[57],
-        58 => starts[58],
-        59 => starts[59],
-        60 => starts[60],
-        61 => starts[61],
-        62 => starts[62],
-        63 => starts[63],
-        64 => starts[64],
-        65 => starts[65],
-        66 => starts[66],
-        67 => starts[67],
-        68 => starts[68],
-        69 => starts[69],
-        70 => starts[70],
-        71 => starts[71],
-        72 => starts[72],
-        73 => starts[73],
-        74 => starts[74],
-        75 => starts[75],
-        76 => starts[76],
-        77 => starts[77],
-        78 => starts[78],
-        79 => starts[79],
-        80 => starts[80],
-        81 => starts[81],
-        82 => starts[82],
-        83 => starts[83],
-        84 => starts[84],
-        85 => starts[85],
-        86 => starts[86],
-        87 => starts[87],
-        88 => starts[88],
-        89 => starts[89],
-        90 => starts[90],
-        91 => starts[91],
-        92 => starts[92],
-        93 => starts[93],
-        94 => starts[94],
-        95 => starts[95],
-        96 => starts[96],
-        97 => starts[97],
-        98 => starts[98],
-        _ => starts[99],
-    }
-}
-
-// The start of one month of a year.
-fn start_of(row: [u16; 12], month: u32) -> u16
-    requires { month < 12 }
-    ensures { result ≡ get_or row month 0 }
-{
-    match month {
-        0 => row[0],
-        1 => row[1],
-        2 => row[2],
-        3 => row[3],
-        4 => row[4],
-        5 => row[5],
-        6 => row[6],
-        7 => row[7],
-        8 => row[8],
-        9 => row[9],
-        10 => row[10],
-        _ => row[11],
-    }
+    &STARTS
 }
 
 // Entry `month` of the table, wide enough for sums of days.
@@ -447,19 +318,20 @@ fn entry(month: u32) -> u32
     requires { month < 1200 }
     ensures { (result ≡ get_or table month 0) × (result < 36525) }
 {
-    start_of(starts_in(month / 12), month % 12) as u32
+    u32::from(starts()[(month / 12) as usize][(month % 12) as usize])
 }
 
 // The day number at which a month of this century or the next starts: its entry, or that of the month a century before it.
+#[tactic(auto, using(crate::proofs::StartTable::this_century, crate::proofs::StartTable::next_century))]
 pub fn month_start(month: u32) -> u32
     requires { month < 2400 }
     ensures { (result ≡ month_start month) × (result ≡ entry_of month) }
 {
     if month < 1200 {
-        return entry(month);
+        entry(month)
+    } else {
+        36525 + entry(month - 1200)
     }
-    let before = month - 1200;
-    36525 + entry(before)
 }
 
 // A month of this century or the next, and how many days of it are before a day.
@@ -473,6 +345,7 @@ pub struct Place {
 // before its even share of the days: so the day is in the month of its share, or in the one before, and the table says in
 // which. Of 1,461 days only 40 are in the one before, so the table is looked up again for these alone: a second look-up
 // waits for the first one's answer.
+#[tactic(auto, using(crate::proofs::Months::in_share, crate::proofs::Months::share_some, crate::proofs::Months::before_share, crate::proofs::Months::stands_found))]
 pub fn place_of(day: u32) -> Place
     requires { day < 73000 }
     ensures { StandsIn day result }
@@ -481,13 +354,14 @@ pub fn place_of(day: u32) -> Place
     let start = month_start(share);
     if day < start {
         let month = share - 1;
-        return Place {
-            month: month,
+        Place {
+            month,
             past: day - month_start(month),
-        };
-    }
-    Place {
-        month: share,
-        past: day - start,
+        }
+    } else {
+        Place {
+            month: share,
+            past: day - start,
+        }
     }
 }

@@ -3,12 +3,12 @@
 -- the fresh state is well-formed and every event keeps a well-formed state so, and that no second outcome satisfies the
 -- contract.
 use Prim.Native.Nat.{ℕ, ◌≤◌, ◌<◌}
-use mathlib.Core.Path.{◌≡◌, refl, sym, ◌∙◌}
-use mathlib.Core.Bool.{true, false}
+use mathlib.Core.Path.{◌≡◌, refl, ap, sym, subst, ◌∙◌}
+use mathlib.Core.Bool.{Bool, true, false, cond}
 use mathlib.Core.List.{List}
-use lib.Dec.{lit<}
+use lib.Dec.{eqb, leb, lit<}
 use lib.ListN.{length}
-use borrow.Author.Tests.{eq-eqb, ne_eqb, le-leb, lt-leb}
+use borrow.Author.Tests.{eqb-true, eq-eqb, ne_eqb, le-leb, lt-leb}
 use Rattle.wire.specs.Limits.{phase_within}
 use Rattle.wire.proofs.Tests.{and_split, and_join}
 use Rattle.fm31_counters.specs.Part.{is_within}
@@ -21,11 +21,15 @@ use Rattle.bus_limits.specs.Limits.{power_within, bus_within}
 use Rattle.bus.specs.declared.Beat.{Beat}
 use Rattle.bus.specs.declared.Beat.TheVariants.{Second, Cnt1, Cnt2}
 use Rattle.bus_limits.proofs.Keeps.{BusLimits, bus_limits_of, of_bus_limits, DeskKeeps, DoneOk, event_keeps}
+use Rattle.std.specs.Prelude.{Result, Ok, Err}
 use Rattle.numbers.specs.Numbers.{wrong_memory, wrong_state, unknown_event}
+use Rattle.numbers.specs.Refusal.{number_of}
+use Rattle.numbers.specs.declared.Refusal.{Refusal}
+use Rattle.numbers.specs.declared.Refusal.TheVariants.{WrongMemory, WrongState, UnknownEvent}
 use Rattle.fm31.specs.Chip.{last_event}
 use Rattle.fm31.specs.Chip.{size_of, companion31, beaten, event_of, fresh}
 use Rattle.fm31.specs.Limits.{well_formed}
-use Rattle.fm31.specs.Step.{Ready, state_of, refused, answered, step_of, StepSettled}
+use Rattle.fm31.specs.Step.{Step, Ready, state_of, admission, refused, answered, step_of, StepSettled}
 use Rattle.fm31.specs.declared.Size.{Size}
 use Rattle.fm31.specs.declared.Size.TheVariants.{Kb64, Kb256}
 use Rattle.fm31.specs.declared.State.{State}
@@ -60,7 +64,53 @@ ready size select s m h w =
     let c = within_facts s.counters l.counters in
     record { memory = h; address = l.bus.address; least = c.least; most = c.most }
 
+-- what the tests before an event say decides what the entry leaves
+settled : {A : Type 0} → A → (Refusal → A) → Result (Unit {0}) Refusal → A
+settled a f (Ok u) = a
+settled a f (Err r) = f r
+
+by_tests : {A : Type 0} (a : A) (f : Refusal → A) (p q t : Bool)
+    → cond p (cond q (cond t a (f UnknownEvent)) (f WrongState)) (f WrongMemory)
+    ≡ settled a f (cond p (cond q (cond t (Ok tt) (Err UnknownEvent)) (Err WrongState)) (Err WrongMemory))
+unfolding settled
+by_tests a f true true true = refl
+by_tests a f true true false = refl
+by_tests a f true false t = refl
+by_tests a f false q t = refl
+
+IsAdmitted : Result (Unit {0}) Refusal → Type 0
+IsAdmitted (Ok u) = Unit {0}
+IsAdmitted (Err r) = ⊥
+
+passed : (p q t : Bool)
+    → IsAdmitted (cond p (cond q (cond t (Ok tt) (Err UnknownEvent)) (Err WrongState)) (Err WrongMemory))
+    → (p ≡ true) × (q ≡ true)
+unfolding IsAdmitted
+passed true true t h = (refl, refl)
+passed true false t h = absurd h
+passed false q t h = absurd h
+
 module _ (size select : ℕ) (s : State) (m : List ℕ) (e : ℕ) where
+  pub step_refused : (r : Refusal) → admission size select s m e ≡ Err r
+      → step_of size select s m e ≡ refused (number_of r) s m
+  unfolding step_of settled
+  step_refused r h = let f : Refusal → Step = λ r. refused (number_of r) s m in
+      by_tests (answered (event_of size select s m e)) f (eqb (length m) size) (well_formed size select s) (leb e last_event)
+      ∙ ap (settled (answered (event_of size select s m e)) f) h
+
+  pub step_admitted : (u : Unit {0}) → admission size select s m e ≡ Ok u
+      → step_of size select s m e ≡ answered (event_of size select s m e)
+  unfolding step_of settled
+  step_admitted u h = let f : Refusal → Step = λ r. refused (number_of r) s m in
+      by_tests (answered (event_of size select s m e)) f (eqb (length m) size) (well_formed size select s) (leb e last_event)
+      ∙ ap (settled (answered (event_of size select s m e)) f) h
+
+  pub admitted_ready : (u : Unit {0}) → admission size select s m e ≡ Ok u → Ready size s m
+  unfolding IsAdmitted
+  admitted_ready u h =
+      let t = passed (eqb (length m) size) (well_formed size select s) (leb e last_event) (subst IsAdmitted (sym h) tt) in
+      ready size select s m (eqb-true (length m) size t.0) t.1
+
   pub step_wrong_memory : (length m ≡ size → ⊥) → step_of size select s m e ≡ refused wrong_memory s m
   unfolding step_of
   step_wrong_memory h = rw (ne_eqb (length m) size h)

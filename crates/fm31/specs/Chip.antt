@@ -2,24 +2,22 @@
 -- The larger family as a part of the bus machine (02, number 5).
 --   size_of                   "its 64Kb and 256Kb sizes"
 --   last_event                the last of its event bytes
---   taken_of, beaten          the companion's functions as the machine asks for them
+--   beaten                    a tick or an edge, passed on
 --   companion31              the companion
 --   Done, event_of            one event on a state and the lent memory
 --   fresh                    the fresh state
 use Rattle.std.specs.Prelude.{ℕ, List}
-use Rattle.wire.specs.Clock as Clock
-use Rattle.fm31_counters.specs.Part.{aim_of, store_of, load_of, loaded_of, edge_of, guard_of}
+use Rattle.fm31_counters.specs.Part.{aim_of, store_of, load_of, loaded_of, guard_of}
 use Rattle.fm31_counters.specs.Part.{backed_of, lost_of, returned_of, blank_of}
 use Rattle.fm31_counters.specs.declared.Counters.{Counters}
-use Rattle.fm31_counters.specs.declared.Taken.{Taken}
-use Rattle.fm31_counters.specs.declared.Input.TheVariants as input
+pub use Rattle.fm31_counters.specs.Ways.{beaten}
 use Rattle.bus.specs.Desk.{Desks}
+use Rattle.bus_deeds.specs.Serve.{taken_of}
 use Rattle.bus.specs.Select.{slave_names_for}
 use Rattle.bus.specs.Happening.{edges}
 use Rattle.bus.specs.Event.{resting}
 use Rattle.bus.specs.Event as Event
 use Rattle.bus.specs.declared.Beat.{Beat}
-use Rattle.bus.specs.declared.Beat.TheVariants.{Second, Cnt1, Cnt2}
 use Rattle.bus.specs.declared.Power.TheVariants.{On}
 use Rattle.fm31.specs.declared.Size.{Size}
 use Rattle.fm31.specs.declared.Size.TheVariants.{Kb64, Kb256}
@@ -33,16 +31,6 @@ size_of Kb256 = 32768
 -- "Two new event bytes, 8 and 9": the last of the ten.
 abbrev pub last_event : ℕ
 last_event = 9
-
--- Auxiliary: what the companion makes of a byte, as the machine asks for it.
-abbrev pub taken_of : Taken → Clock.Taken Counters
-taken_of t = record { next = t.counters; good = t.acknowledged }
-
--- "It has no calendar: ticks change nothing"; "8 and 9, are already polarity-filtered edges on CNT1 and CNT2".
-abbrev pub beaten : Beat → Counters → Counters
-beaten Second c = c
-beaten Cnt1 c = edge_of c input.Cnt1
-beaten Cnt2 c = edge_of c input.Cnt2
 
 -- "Answer bits 1 to 3 are 0": the pin shows nothing.
 abbrev pub companion31 : Desks

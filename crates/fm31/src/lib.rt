@@ -1,15 +1,13 @@
 // SPDX-License-Identifier: Apache-2.0
 // The larger family, in its 64Kb and 256Kb sizes: supplies, transfers and memory are those of every part (crate `bus`),
-// the companion is `fm31_counters`.
+// the companion is `fm31_counters`, and it does what an event asks of it by `bus_deeds`.
 //
-// serve     what an event asks of the companion, done
 // step      one event byte, and the entry with its refusals
 #![tactic(auto)]
 
-use bus::{Bus, Reply};
+use bus::Bus;
 use fm31_counters::Counters;
 
-pub mod serve;
 pub mod step;
 
 // The bytes of memory of the 64Kb part.
@@ -22,7 +20,7 @@ pub const KB256: u16 = 32768;
 pub const LAST_EVENT: u8 = 9;
 
 // The two sizes.
-#[derive(Clone, Copy)]
+#[derive(Clone, Copy, PartialEq, Eq, Debug)]
 pub enum Size {
     Kb64,
     Kb256,
@@ -33,13 +31,6 @@ pub enum Size {
 pub struct State {
     pub bus: Bus,
     pub counters: Counters,
-}
-
-// The companion once it did what it was asked, and its reply.
-#[derive(Clone, Copy)]
-pub struct Served {
-    pub counters: Counters,
-    pub reply: Reply,
 }
 
 // What an answered event leaves: the next state, and the answer byte.

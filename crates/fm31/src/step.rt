@@ -4,16 +4,17 @@ ghost use Rattle.std.specs.Prelude.{◌≡◌, ◌≤◌};
 ghost use Rattle.fm31.specs.Chip.{last_event};
 ghost use Rattle.fm31.specs.Chip.{size_of, event_of, fresh};
 ghost use Rattle.fm31.specs.Limits.{well_formed};
-ghost use Rattle.fm31.specs.Step.{Ready, AnsweredWith, answer_byte, refusal, StepSettled};
+ghost use Rattle.fm31.specs.Step.{Ready, AnsweredWith, answer_byte, refusal, admission, StepSettled};
+ghost use Rattle.numbers.specs.Refusal.{number_of};
 
-use crate::serve::serve;
 use crate::{Answered, KB64, KB256, LAST_EVENT, Size, State, Stepped};
 use bus::{Bus, Power};
 use bus_deeds::deed_of;
+use bus_deeds::serve::serve;
 use bus_limits::bus_within;
 use fm31_counters::Counters;
 use fm31_counters::map::{FIRST, LAST};
-use numbers::{ACCEPTED, UNKNOWN_EVENT, WRONG_MEMORY, WRONG_STATE};
+use numbers::{ACCEPTED, Refusal};
 
 // The bytes of memory of a size.
 pub fn size_of(size: Size) -> u16
@@ -29,16 +30,16 @@ pub fn size_of(size: Size) -> u16
 pub fn answer_byte(line: bool) -> u8
     ensures { result ≡ answer_byte line }
 {
-    if line { 1 } else { 0 }
+    u8::from(line)
 }
 
 // What the entry returns of a refused event: its state unchanged with answer byte 1.
-fn refused(number: u8, state: State) -> Stepped
-    ensures { result ≡ refusal number state }
+fn refused(refused_by: Refusal, state: State) -> Stepped
+    ensures { result ≡ refusal (number_of refused_by) state }
 {
     Stepped {
-        number: number,
-        state: state,
+        number: refused_by.number(),
+        state,
         answer: 1,
     }
 }
@@ -55,12 +56,11 @@ impl State {
     }
 
     // Whether the state is within the limits of a size with these select bits.
+    #[tactic(auto, unfolding(crate::specs::Limits::well_formed))]
     pub fn is_well_formed(self, size: u16, select: u8) -> bool
         ensures { result ≡ well_formed size select self }
     {
-        let bus = self.bus;
-        let counters = self.counters;
-        bus_within(bus, size, select, FIRST, LAST) & counters.is_within()
+        bus_within(self.bus, size, select, FIRST, LAST) & self.counters.is_within()
     }
 
     // One event of the ten, with its answer byte: the companion does what it is asked, the bus does the rest.
@@ -70,21 +70,32 @@ impl State {
         ensures { AnsweredWith size select result memory.new (event_of size select self memory.old event) }
     {
         let bus = self.bus;
-        let counters = self.counters;
-        let guard = counters.guard();
-        let served = serve(counters, deed_of(bus, event));
-        let reply = served.reply;
-        let went = bus.happen(memory, size, select, guard, reply, event);
-        let next = went.bus;
-        let companion = served.counters;
-        let state = State {
-            bus: next,
-            counters: companion,
-        };
+        let guard = self.counters.guard();
+        let served = serve(self.counters, deed_of(bus, event));
+        let went = bus.happen(memory, size, select, guard, served.reply, event);
         Answered {
-            state: state,
+            state: State {
+                bus: went.bus,
+                counters: served.companion,
+            },
             answer: answer_byte(went.line),
         }
+    }
+
+    // Whether an event can be done: else the first refusal that fits.
+    fn admits(self, size: u16, select: u8, memory: &[u8], event: u8) -> Result<(), Refusal>
+        ensures { result ≡ admission size select self memory.now event }
+    {
+        if memory.len() != usize::from(size) {
+            return Err(Refusal::WrongMemory);
+        }
+        if !self.is_well_formed(size, select) {
+            return Err(Refusal::WrongState);
+        }
+        if event > LAST_EVENT {
+            return Err(Refusal::UnknownEvent);
+        }
+        Ok(())
     }
 
     // The entry for one event: refused by the first number that fits, or done.
@@ -92,21 +103,16 @@ impl State {
         ensures { StepSettled chosen select self memory.old event result memory.new }
     {
         let size = size_of(chosen);
-        if memory.len() != size as usize {
-            return refused(WRONG_MEMORY, self);
-        }
-        if self.is_well_formed(size, select) {
-            if event <= LAST_EVENT {
+        match self.admits(size, select, memory, event) {
+            Err(refused_by) => refused(refused_by, self),
+            Ok(()) => {
                 let answered = self.advance(memory, size, select, event);
-                let state = answered.state;
-                return Stepped {
+                Stepped {
                     number: ACCEPTED,
-                    state: state,
+                    state: answered.state,
                     answer: answered.answer,
-                };
+                }
             }
-            return refused(UNKNOWN_EVENT, self);
         }
-        refused(WRONG_STATE, self)
     }
 }

@@ -2,12 +2,12 @@
 -- The entry for one event: what each way through its tests gives, that a well-formed state is ready for an event, and that
 -- no second outcome satisfies the contract.
 use Prim.Native.Nat.{ℕ, ◌≤◌, ◌<◌}
-use mathlib.Core.Path.{◌≡◌, ap, sym, ◌∙◌}
-use mathlib.Core.Bool.{true, false}
+use mathlib.Core.Path.{◌≡◌, refl, ap, sym, subst, ◌∙◌}
+use mathlib.Core.Bool.{Bool, true, false, cond}
 use mathlib.Core.List.{List}
-use lib.Dec.{ltb}
+use lib.Dec.{eqb, ltb}
 use lib.ListN.{length}
-use borrow.Author.Tests.{ltb-true, eq-eqb, ne_eqb, lt-ltb, le-ltb}
+use borrow.Author.Tests.{ltb-true, eqb-true, eq-eqb, ne_eqb, lt-ltb, le-ltb}
 use Rattle.wire.specs.Slave.{slave_names}
 use Rattle.wire.specs.Limits.{phase_within}
 use Rattle.wire.specs.declared.Phase.{Phase}
@@ -20,11 +20,15 @@ use Rattle.bus.proofs.Lone.{lone_within}
 use Rattle.fm3130_registers.specs.Map.{LAST}
 use Rattle.fm3130_companion.specs.Part.{is_within}
 use Rattle.fm3130_companion.proofs.LimitFacts.{within_address}
+use Rattle.std.specs.Prelude.{Result, Ok, Err}
 use Rattle.numbers.specs.Numbers.{wrong_memory, wrong_state, unknown_event}
+use Rattle.numbers.specs.Refusal.{number_of}
+use Rattle.numbers.specs.declared.Refusal.{Refusal}
+use Rattle.numbers.specs.declared.Refusal.TheVariants.{WrongMemory, WrongState, UnknownEvent}
 use Rattle.fm3130.specs.Chip.{memory_size}
 use Rattle.fm3130.specs.Event.{event_of, rolled_in}
 use Rattle.fm3130.specs.Limits.{is_legal, well_formed}
-use Rattle.fm3130.specs.Step.{Ready, refused, answered, step_of, StepSettled}
+use Rattle.fm3130.specs.Step.{Step, Ready, admission, refused, answered, step_of, StepSettled}
 use Rattle.fm3130.specs.declared.State.{State}
 use Rattle.fm3130.specs.declared.Stepped.{Stepped}
 
@@ -60,7 +64,51 @@ ready s m h w =
     let l = limits_of s w in
     record { memory = h; address = l.address; desk = within_address s.companion l.companion }
 
+-- what the tests before an event say decides what the entry leaves
+settled : {A : Type 0} → A → (Refusal → A) → Result (Unit {0}) Refusal → A
+settled a f (Ok u) = a
+settled a f (Err r) = f r
+
+by_tests : {A : Type 0} (a : A) (f : Refusal → A) (p q t : Bool)
+    → cond p (cond q (cond t a (f UnknownEvent)) (f WrongState)) (f WrongMemory)
+    ≡ settled a f (cond p (cond q (cond t (Ok tt) (Err UnknownEvent)) (Err WrongState)) (Err WrongMemory))
+unfolding settled
+by_tests a f true true true = refl
+by_tests a f true true false = refl
+by_tests a f true false t = refl
+by_tests a f false q t = refl
+
+IsAdmitted : Result (Unit {0}) Refusal → Type 0
+IsAdmitted (Ok u) = Unit {0}
+IsAdmitted (Err r) = ⊥
+
+passed : (p q t : Bool)
+    → IsAdmitted (cond p (cond q (cond t (Ok tt) (Err UnknownEvent)) (Err WrongState)) (Err WrongMemory))
+    → (p ≡ true) × (q ≡ true)
+unfolding IsAdmitted
+passed true true t h = (refl, refl)
+passed true false t h = absurd h
+passed false q t h = absurd h
+
 module _ (s : State) (m : List ℕ) (e : ℕ) where
+  pub step_refused : (r : Refusal) → admission s m e ≡ Err r → step_of s m e ≡ refused (number_of r) s m
+  unfolding step_of settled
+  step_refused r h = let f : Refusal → Step = λ r. refused (number_of r) s m in
+      by_tests (answered (event_of s m e) (rolled_in s e)) f (eqb (length m) memory_size) (well_formed s) (ltb e 8)
+      ∙ ap (settled (answered (event_of s m e) (rolled_in s e)) f) h
+
+  pub step_admitted : (u : Unit {0}) → admission s m e ≡ Ok u → step_of s m e ≡ answered (event_of s m e) (rolled_in s e)
+  unfolding step_of settled
+  step_admitted u h = let f : Refusal → Step = λ r. refused (number_of r) s m in
+      by_tests (answered (event_of s m e) (rolled_in s e)) f (eqb (length m) memory_size) (well_formed s) (ltb e 8)
+      ∙ ap (settled (answered (event_of s m e) (rolled_in s e)) f) h
+
+  pub admitted_ready : (u : Unit {0}) → admission s m e ≡ Ok u → Ready s m
+  unfolding IsAdmitted
+  admitted_ready u h =
+      let t = passed (eqb (length m) memory_size) (well_formed s) (ltb e 8) (subst IsAdmitted (sym h) tt) in
+      ready s m (eqb-true (length m) memory_size t.0) t.1
+
   pub step_wrong_memory : (length m ≡ memory_size → ⊥) → step_of s m e ≡ refused wrong_memory s m
   unfolding step_of
   step_wrong_memory h = rw (ne_eqb (length m) memory_size h)

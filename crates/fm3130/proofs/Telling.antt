@@ -14,11 +14,15 @@ use Rattle.wire.specs.declared.Side.TheVariants.{Memory, Companion}
 use Rattle.wire.specs.declared.Phase.{Phase}
 use Rattle.wire.specs.declared.Phase.TheVariants.{Idle, Slave, AddressHigh, AddressLow, Pointer, Write, Read}
 use Rattle.calendar.specs.declared.Rolled.TheVariants.{Nothing}
-use Rattle.fm3130_companion.specs.Part.{guard_of}
+use Rattle.std.specs.Prelude.{unwrap_or}
+use Rattle.calendar.specs.declared.Rolled.{Rolled}
+use Rattle.fm3130_companion.specs.Part.{guard_of, rolled_of}
+use Rattle.fm3130_companion.specs.declared.Companion as desk
 use Rattle.wire.specs.Slave.{slave_names}
 use Rattle.bus.specs.Select.{lone, slave_names_for}
 use Rattle.bus.specs.Happening as part
-use Rattle.bus_deeds.specs.Serve.{at_last, at_ends, clock_deed, line_deed, deed_of}
+use Rattle.bus_deeds.specs.Serve.{at_last, at_ends, clock_deed, line_deed, deed_of, served_of, told_by, saying}
+use Rattle.bus_deeds.specs.declared.serve.Served.{Served}
 use Rattle.bus.specs.Code.Outcome.{left, went_on, went_of}
 use Rattle.bus.specs.Code.Outcome as bus-outcome
 use Rattle.bus.specs.declared.Bus.{Bus}
@@ -32,10 +36,9 @@ use Rattle.fm3130.specs.Chip.{memory_size, bus_of, state_with}
 use Rattle.fm3130.specs.Event.{Happening, on_wire, beat, lost, gone, returned, happening, event_on, event_of, rolled_by, rolled_in}
 use Rattle.fm3130.specs.Answer.{answer_byte}
 use Rattle.fm3130.specs.Desk.{companion30}
-use Rattle.fm3130.specs.Code.Serving.{said_by, served_by}
+use Rattle.fm3130.specs.Code.Serving.{said_by}
 use Rattle.fm3130.specs.Step.{Ready, ToldWith}
 use Rattle.fm3130.specs.declared.State.{State}
-use Rattle.fm3130.specs.declared.Served.{Served}
 
 module _ (s : State) where
   said_last : (z : Place) (q : Deed) → said_by q s.companion ≡ Nothing → said_by (at_last z q) s.companion ≡ Nothing
@@ -103,11 +106,15 @@ eight_alike e h =
 pub bus_ready : (s : State) (m : List ℕ) (u : Bus) → u ≡ bus_of s → Ready s m → bus-outcome.Ready memory_size u m
 bus_ready s m u h r = rw h (record { memory = r.memory; address = r.address })
 
-pub told : (s : State) (m m' : List ℕ) (e g a : ℕ) (u : Bus) (q : Deed) (v : Served) (w : Went) (s' : State) → e ≤ 7
+-- what the code below an event returns of a companion
+abbrev served_by : Deed → desk.Companion → Served desk.Companion Rolled
+served_by q c = saying (served_of companion30 q c) (told_by (λ t c. rolled_of c) q c)
+
+pub told : (s : State) (m m' : List ℕ) (e g a : ℕ) (u : Bus) (q : Deed) (v : Served desk.Companion Rolled) (w : Went) (s' : State) → e ≤ 7
     → u ≡ bus_of s → g ≡ guard_of s.companion → q ≡ deed_of u.power u.phase (part.happening part.edges e)
     → v ≡ served_by q s.companion → left w m' ≡ went_of memory_size (slave_names_for lone) g v.reply u m e
     → s' ≡ state_with w.bus v.companion → a ≡ answer_byte s' w.line
-    → ToldWith (record { state = s'; answer = a; rolled = v.rolled }) m' (event_of s m e) (rolled_in s e)
+    → ToldWith (record { state = s'; answer = a; rolled = unwrap_or v.told Nothing }) m' (event_of s m e) (rolled_in s e)
 unfolding event_on
 told s m m' e g a u q v w s' h hu hg hq hv hw hs ha =
     let c = s.companion in
@@ -121,7 +128,7 @@ told s m m' e g a u q v w s' h hu hg hq hv hw hs ha =
     let w' = hw ∙ moved in
     let s'' = hs ∙ (λ i. state_with (w' i).went.bus (v' i).companion) in
     let a' = ha ∙ (λ i. answer_byte (s'' i) (w' i).went.line) in
-    let r' = ap (λ (v : Served). v.rolled) v' ∙ said s e in
+    let r' = ap (λ (v : Served desk.Companion Rolled). unwrap_or v.told Nothing) v' ∙ said s e in
     rw (split memory_size slave_names companion30 (bus_of s) c m s.power (happening e))
     (record {
       result = λ i. record { state = s'' i; answer = a' i; rolled = r' i };

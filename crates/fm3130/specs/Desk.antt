@@ -5,17 +5,13 @@
 use Rattle.std.specs.Prelude.{ℕ}
 use Rattle.wire.specs.Clock as Clock
 use Rattle.bus.specs.Desk.{Desks}
+use Rattle.bus_deeds.specs.Serve.{taken_of}
 use Rattle.bus.specs.Happening.{returned}
 use Rattle.bus.specs.declared.Beat.TheVariants.{Second}
 use Rattle.bus.specs.declared.Power.{Power}
 use Rattle.bus.specs.declared.Power.TheVariants.{On, Backup, Off}
 use Rattle.fm3130_companion.specs.Part.{aim_of, store_of, load_of, loaded_of, tick_of, guard_of, pin_of, backed_of, lost_of, returned_of}
 use Rattle.fm3130_companion.specs.declared.Companion.{Companion}
-use Rattle.fm3130_companion.specs.declared.Taken.{Taken}
-
--- Auxiliary: what the companion makes of a byte, as the machine asks for it.
-abbrev pub taken_of : Taken → Clock.Taken Companion
-taken_of t = record { next = t.companion; good = t.acknowledged }
 
 abbrev pub aims : Companion → ℕ → Clock.Taken Companion
 aims c b = taken_of (aim_of c b)

@@ -2,11 +2,14 @@
 -- The entry for one event, refusals too (01, Entries and refusal numbers). `StepSettled` is its whole outcome.
 --   Ready                                what an event asks of state and memory
 --   AnsweredWith, ToldWith               what the functions below the entry return and leave
+--   admission                            the tests before an event
 --   refused, answered, step_of            what the entry returns and leaves
 --   StepSettled                          the entry's contract
-use Rattle.std.specs.Prelude.{ℕ, ◌<◌, ◌≤◌, ◌≡◌, cond, List, eqb, ltb, length}
+use Rattle.std.specs.Prelude.{ℕ, ◌<◌, ◌≤◌, ◌≡◌, cond, List, eqb, ltb, length, Result, Ok, Err}
 use Rattle.fm3130_registers.specs.Map.{LAST}
 use Rattle.numbers.specs.Numbers.{accepted, wrong_memory, wrong_state, unknown_event}
+use Rattle.numbers.specs.declared.Refusal.{Refusal}
+use Rattle.numbers.specs.declared.Refusal.TheVariants.{WrongMemory, WrongState, UnknownEvent}
 use Rattle.fm3130.specs.Chip.{memory_size, Done}
 use Rattle.calendar.specs.declared.Rolled.{Rolled}
 use Rattle.calendar.specs.declared.Rolled.TheVariants.{Nothing}
@@ -58,6 +61,12 @@ refused n s m = step_with (refusal n s) m
 
 abbrev pub answered : Done → Rolled → Step
 answered d w = step_with (acceptance d.state (answer_byte d.state d.line) w) d.memory
+
+-- Auxiliary: the tests that come before an event, in the order of the numbers.
+abbrev pub admission : State → List ℕ → ℕ → Result (Unit {0}) Refusal
+admission s m e =
+    cond (eqb (length m) memory_size) (cond (well_formed s) (cond (ltb e 8) (Ok tt) (Err UnknownEvent)) (Err WrongState))
+    (Err WrongMemory)
 
 -- "Checked in the order of the numbers."
 unfoldable pub step_of : State → List ℕ → ℕ → Step

@@ -12,8 +12,7 @@ fn pin_shown(power: Power, companion: Companion) -> u8
     ensures { (result ≡ pin_shown power companion) × (result ≤ 7) }
 {
     match power {
-        Power::On => companion.pin(),
-        Power::Backup => companion.pin(),
+        Power::On | Power::Backup => companion.pin(),
         Power::Off => 0,
     }
 }
@@ -23,12 +22,6 @@ impl State {
     pub(crate) fn answer(self, line: bool) -> u8
         ensures { result ≡ answer_byte self line }
     {
-        let power = self.power;
-        let companion = self.companion;
-        let pin = pin_shown(power, companion);
-        if line {
-            return 2 * pin + 1;
-        }
-        2 * pin
+        2 * pin_shown(self.power, self.companion) + u8::from(line)
     }
 }

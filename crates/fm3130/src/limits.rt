@@ -12,12 +12,9 @@ impl State {
     pub fn is_well_formed(self) -> bool
         ensures { result ≡ well_formed self }
     {
-        let power = self.power;
-        let phase = self.phase;
-        let companion = self.companion;
         (self.address < MEMORY_SIZE)
-            & companion.is_within()
-            & phase_within(LONE, 0, LAST, phase)
-            & power_within(power, phase)
+            & self.companion.is_within()
+            & phase_within(LONE, 0, LAST, self.phase)
+            & power_within(self.power, self.phase)
     }
 }

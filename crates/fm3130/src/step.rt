@@ -5,24 +5,25 @@ ghost use Rattle.fm3130.specs.Power.{fresh};
 ghost use Rattle.fm3130.specs.Event.{event_of, rolled_in};
 ghost use Rattle.fm3130.specs.Chip.{bus_of, state_with};
 ghost use Rattle.fm3130.specs.Step.{Ready, AnsweredWith, ToldWith};
-ghost use Rattle.fm3130.specs.Step.{refusal, acceptance, StepSettled};
+ghost use Rattle.fm3130.specs.Step.{refusal, acceptance, admission, StepSettled};
+ghost use Rattle.numbers.specs.Refusal.{number_of};
 
-use crate::serve::serve;
-use crate::{Answered, MEMORY_SIZE, State, Stepped, Told};
+use crate::{Answered, LAST_EVENT, MEMORY_SIZE, State, Stepped, Told};
 use bus::select::LONE;
 use bus::{Bus, Power};
 use bus_deeds::deed_of;
+use bus_deeds::serve::serve;
 use calendar::Rolled;
 use fm3130_companion::Companion;
-use numbers::{ACCEPTED, UNKNOWN_EVENT, WRONG_MEMORY, WRONG_STATE};
+use numbers::{ACCEPTED, Refusal};
 
 // What the entry returns of a refused event: its state unchanged with answer byte 1, and no field of the calendar.
-fn refused(number: u8, state: State) -> Stepped
-    ensures { result ≡ refusal number state }
+fn refused(refused_by: Refusal, state: State) -> Stepped
+    ensures { result ≡ refusal (number_of refused_by) state }
 {
     Stepped {
-        number: number,
-        state: state,
+        number: refused_by.number(),
+        state,
         answer: 1,
         rolled: Rolled::Nothing,
     }
@@ -34,9 +35,9 @@ fn accepted(state: State, answer: u8, rolled: Rolled) -> Stepped
 {
     Stepped {
         number: ACCEPTED,
-        state: state,
-        answer: answer,
-        rolled: rolled,
+        state,
+        answer,
+        rolled,
     }
 }
 
@@ -45,11 +46,9 @@ impl State {
     fn bus(self) -> Bus
         ensures { result ≡ bus_of self }
     {
-        let power = self.power;
-        let phase = self.phase;
         Bus {
-            power: power,
-            phase: phase,
+            power: self.power,
+            phase: self.phase,
             address: self.address,
         }
     }
@@ -58,13 +57,11 @@ impl State {
     fn with(bus: Bus, companion: Companion) -> State
         ensures { result ≡ state_with bus companion }
     {
-        let power = bus.power;
-        let phase = bus.phase;
         State {
-            power: power,
-            phase: phase,
+            power: bus.power,
+            phase: bus.phase,
             address: bus.address,
-            companion: companion,
+            companion,
         }
     }
 
@@ -72,7 +69,7 @@ impl State {
     pub fn fresh() -> State
         ensures { result ≡ fresh }
     {
-        State::with(Bus::resting(Power::On), Companion::lost())
+        State::with(Bus::resting(Power::On), Companion::fresh())
     }
 
     // One event of the eight, with its answer byte and the field of the calendar that it changed: the companion does what
@@ -83,19 +80,14 @@ impl State {
         ensures { ToldWith result memory.new (event_of self memory.old event) (rolled_in self event) }
     {
         let bus = self.bus();
-        let companion = self.companion;
-        let guard = companion.guard();
-        let served = serve(companion, deed_of(bus, event));
-        let reply = served.reply;
-        let went = bus.happen(memory, MEMORY_SIZE, LONE, guard, reply, event);
-        let next = went.bus;
-        let after = served.companion;
-        let state = State::with(next, after);
-        let rolled = served.rolled;
+        let guard = self.companion.guard();
+        let served = serve(self.companion, deed_of(bus, event));
+        let went = bus.happen(memory, MEMORY_SIZE, LONE, guard, served.reply, event);
+        let state = State::with(went.bus, served.companion);
         Told {
-            state: state,
+            state,
             answer: state.answer(went.line),
-            rolled: rolled,
+            rolled: served.told.unwrap_or(Rolled::Nothing),
         }
     }
 
@@ -106,29 +98,38 @@ impl State {
         ensures { AnsweredWith result memory.new (event_of self memory.old event) }
     {
         let told = self.tell(memory, event);
-        let state = told.state;
         Answered {
-            state: state,
+            state: told.state,
             answer: told.answer,
         }
+    }
+
+    // Whether an event can be done: else the first refusal that fits.
+    fn admits(self, memory: &[u8], event: u8) -> Result<(), Refusal>
+        ensures { result ≡ admission self memory.now event }
+    {
+        if memory.len() != usize::from(MEMORY_SIZE) {
+            return Err(Refusal::WrongMemory);
+        }
+        if !self.is_well_formed() {
+            return Err(Refusal::WrongState);
+        }
+        if event > LAST_EVENT {
+            return Err(Refusal::UnknownEvent);
+        }
+        Ok(())
     }
 
     // The entry for one event: refused by the first number that fits, or done.
     pub fn step(self, memory: &mut [u8], event: u8) -> Stepped
         ensures { StepSettled self memory.old event result memory.new }
     {
-        if memory.len() != MEMORY_SIZE as usize {
-            return refused(WRONG_MEMORY, self);
-        }
-        if self.is_well_formed() {
-            if event < 8 {
+        match self.admits(memory, event) {
+            Err(refused_by) => refused(refused_by, self),
+            Ok(()) => {
                 let told = self.tell(memory, event);
-                let state = told.state;
-                let rolled = told.rolled;
-                return accepted(state, told.answer, rolled);
+                accepted(told.state, told.answer, told.rolled)
             }
-            return refused(UNKNOWN_EVENT, self);
         }
-        refused(WRONG_STATE, self)
     }
 }

@@ -7,7 +7,7 @@ use lib.Dec.{leb, eqb}
 use Rattle.bits.specs.Weight.{has}
 use Rattle.bits.proofs.Cases.{by_cond}
 use Rattle.fm3130_companion.specs.declared.Companion.{Companion}
-use Rattle.fm3130_companion.specs.declared.Taken.{Taken}
+use Rattle.fm3130_companion.specs.Part.{Taken}
 use Rattle.fm3130_registers.specs.Map.{LAST, OSCEN}
 use Rattle.fm3130_companion.specs.Part.{aim_of, loaded_of, tick_of, guard_of}
 

@@ -16,7 +16,7 @@ use Rattle.calendar.specs.Next.{is_valid}
 use Rattle.calendar.proofs.Tests.{true_test, test_true}
 use Rattle.calendar.proofs.Next.{next_valid}
 use Rattle.fm3130_companion.specs.declared.Companion.{Companion}
-use Rattle.fm3130_companion.specs.declared.Taken.{Taken}
+use Rattle.fm3130_companion.specs.Part.{Taken}
 use Rattle.fm3130_registers.specs.Map.{OSCEN, W}
 use Rattle.fm3130_registers.specs.Control.{w_falls}
 use Rattle.fm3130_companion.specs.Write.{written_of}

@@ -18,7 +18,7 @@ use Rattle.calendar.specs.Next.{next_of}
 use Rattle.calendar.proofs.Width.{next_within}
 use Rattle.fm3130_companion.specs.declared.Registers.{Registers}
 use Rattle.fm3130_companion.specs.declared.Companion.{Companion}
-use Rattle.fm3130_companion.specs.declared.Taken.{Taken}
+use Rattle.fm3130_companion.specs.Part.{Taken}
 use Rattle.fm3130_registers.specs.Map.{LAST, OSCEN, CAL, W, R}
 use Rattle.fm3130_registers.specs.Control.{flags_after, core_after, frozen, followed}
 use Rattle.fm3130_companion.specs.Change.{with_time, with_registers, with_address}

@@ -1,7 +1,7 @@
 -- SPDX-License-Identifier: Apache-2.0
 -- The companion as a device uses it: what a byte of a transfer does to it (01, Transfers), and, passed on from the
 -- other files, what a tick and the loss of power do, what the pin shows, what memory is protected, and the limits.
---   stepped_of                the companion at the next address
+--   Taken, stepped_of          what taking a byte leaves; the companion at the next address
 --   refused_address, aim_of    an address byte that is refused; an address byte
 --   loads_bad_date, refused_date   a data byte that would load the core with no date; what it leaves
 --   store_of                  a data byte at its eighth clock
@@ -10,7 +10,7 @@
 use Rattle.std.specs.Prelude.{ℕ, Bool, true, false, cond, not, ◌&&◌, leb, eqb}
 use Rattle.calendar.specs.Next.{is_valid}
 use Rattle.fm3130_companion.specs.declared.Companion.{Companion}
-use Rattle.fm3130_companion.specs.declared.Taken.{Taken}
+use Rattle.bus_deeds.specs.declared.serve.Taken as serve
 use Rattle.fm3130_registers.specs.Map.{CONTROL, LAST, next_address}
 use Rattle.fm3130_companion.specs.Registers.{register_at, put_at}
 use Rattle.fm3130_registers.specs.Control.{flags_after, w_falls}
@@ -20,6 +20,10 @@ unfoldable pub use Rattle.fm3130_companion.specs.Tick.{tick_of, rolled_of}
 unfoldable pub use Rattle.fm3130_companion.specs.Pin.{pin_of, guard_of}
 unfoldable pub use Rattle.fm3130_companion.specs.Power.{backed_of, lost_of, returned_of}
 unfoldable pub use Rattle.fm3130_companion.specs.Limits.{is_within}
+
+-- Auxiliary: what taking a byte leaves.
+abbrev pub Taken : Type 0
+Taken = serve.Taken Companion
 
 -- 01, Transfers: "and then the address steps on".
 abbrev pub stepped_of : Companion → Companion

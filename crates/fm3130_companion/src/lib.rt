@@ -1,22 +1,20 @@
 // SPDX-License-Identifier: Apache-2.0
 // The companion of the FM3130: fifteen registers, the calendar core behind them, and the address of the next byte. It
-// knows nothing of buses or memory: a device hands it whole bytes, ticks and power events, and asks it for bytes, the
+// knows nothing of transfers or memory: a device hands it whole bytes, ticks and power events, and asks it for bytes, the
 // pin and the protection. Every method takes the companion by value and returns the next one.
 //
 //   access.rt    the registers by address
-//   change.rt    one part replaced, the rest kept
 //   write.rt     a data byte by its address
 //   tick.rt      a one-second tick: the core, the alarm, the flags
 //   pin.rt       the ACS pin, and the protection of memory
-//   power.rt     power lost, both supplies gone, power returned
+//   power.rt     what the loss of both supplies leaves
 //   limits.rt    the limits of a state
-//   part.rt      the bytes of a transfer: an address, a data byte, a read and its end
+//   part.rt      all that an event asks of it: the bytes of a transfer, a tick, power lost and returned
 #![tactic(auto)]
 
 use calendar::{Calendar, Rolled};
 
 mod access;
-mod change;
 mod limits;
 mod part;
 mod pin;
@@ -50,13 +48,6 @@ pub struct Companion {
     pub registers: Registers,
     pub core: Calendar,
     pub address: u8,
-}
-
-// What taking a byte leaves, and whether the byte is acknowledged.
-#[derive(Clone, Copy)]
-pub struct Taken {
-    pub companion: Companion,
-    pub acknowledged: bool,
 }
 
 // What a tick leaves, and the highest field of the core that it changed.

@@ -14,6 +14,7 @@ fn fixed_clear(span: u8, byte: u8) -> bool
 }
 
 impl Alarm {
+    #[tactic(auto, unfolding(crate::specs::Limits::alarm_within))]
     fn is_within(self) -> bool
         ensures { result ≡ alarm_within self }
     {
@@ -22,22 +23,20 @@ impl Alarm {
 }
 
 impl Registers {
+    #[tactic(auto, unfolding(crate::specs::Limits::registers_within))]
     fn is_within(self) -> bool
         ensures { result ≡ registers_within self }
     {
-        let time = self.time;
-        let alarm = self.alarm;
-        fixed_clear(64, self.trim) & time.is_within() & alarm.is_within()
+        fixed_clear(64, self.trim) & self.time.is_within() & self.alarm.is_within()
     }
 }
 
 impl Companion {
     // Whether the companion is within 01's limits.
+    #[tactic(auto, unfolding(crate::specs::Limits::is_within))]
     pub fn is_within(self) -> bool
         ensures { result ≡ is_within self }
     {
-        let registers = self.registers;
-        let core = self.core;
-        (self.address <= LAST) & registers.is_within() & core.is_within()
+        (self.address <= LAST) & self.registers.is_within() & self.core.is_within()
     }
 }

@@ -9,6 +9,7 @@ use fm3130_registers::pin::pin_by;
 
 impl Companion {
     // Bits 3 to 1 of an answer as a number.
+    #[tactic(auto, unfolding(crate::specs::Pin::pin_of))]
     pub fn pin(self) -> u8
         ensures { (result ≡ pin_of self) × (result ≤ 7) }
     {

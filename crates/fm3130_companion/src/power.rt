@@ -1,12 +1,11 @@
 // SPDX-License-Identifier: Apache-2.0
-// The companion when power goes and comes.
+// The companion that the loss of both supplies leaves.
 ghost use Rattle.std.specs.Prelude.{◌≡◌};
-ghost use Rattle.fm3130_companion.specs.Power.{lost_date, lost_registers, backed_of, lost_of, returned_of};
+ghost use Rattle.fm3130_companion.specs.Power.{lost_date, lost_registers, lost_of};
 
 use crate::{Alarm, Companion, Registers};
 use calendar::Calendar;
-use fm3130_registers::control::por_set;
-use fm3130_registers::map::{CONTROL, LB, OSCEN, POR};
+use fm3130_registers::map::{LB, OSCEN, POR};
 
 // The date that the loss of both supplies leaves: all 0 but day, date and month, which are 1.
 fn lost_date() -> Calendar
@@ -44,15 +43,9 @@ fn lost_registers() -> Registers
 }
 
 impl Companion {
-    // Main power lost with backup: the address is 0 again, the rest is kept.
-    pub fn backed(self) -> Companion
-        ensures { result ≡ backed_of self }
-    {
-        self.with_address(0)
-    }
-
-    // Both supplies gone; also the fresh companion.
-    pub fn lost() -> Companion
+    // The fresh companion: as both supplies' loss leaves it.
+    #[tactic(auto, unfolding(crate::specs::Power::lost_of))]
+    pub fn fresh() -> Companion
         ensures { result ≡ lost_of }
     {
         Companion {
@@ -60,14 +53,5 @@ impl Companion {
             core: lost_date(),
             address: 0,
         }
-    }
-
-    // Main power back after backup: POR is set.
-    pub fn returned(self) -> Companion
-        ensures { result ≡ returned_of self }
-    {
-        let registers = self.registers;
-        let control = por_set(registers.control);
-        self.with_registers(registers.put(CONTROL, control))
     }
 }

@@ -5,7 +5,7 @@ ghost use Rattle.std.specs.Prelude.{◌≡◌};
 ghost use Rattle.fm3130_companion.specs.Tick.{matches, counted_of, tick_of, rolled_of, ticked_of};
 ghost use Rattle.calendar.specs.Next.{next_of};
 
-use crate::{Alarm, Companion, Ticked};
+use crate::{Alarm, Companion, Registers, Ticked};
 use bits::has;
 use calendar::{Calendar, Rolled};
 use fm3130_registers::alarm::agrees;
@@ -32,25 +32,25 @@ impl Companion {
     {
         let core = self.core;
         let registers = self.registers;
-        let alarm = registers.alarm;
         let next = core.next();
         let advanced = next.calendar;
-        let rung = core.is_valid() & alarm.matches(advanced);
-        let control = told(registers.control, rung, next.century);
-        let time = followed(registers.control, advanced, registers.time);
-        let companion = Companion {
-            registers: registers.with_time(control, time),
-            core: advanced,
-            address: self.address,
-        };
-        let rolled = next.rolled;
+        let rung = core.is_valid() & registers.alarm.matches(advanced);
         Ticked {
-            companion: companion,
-            rolled: rolled,
+            companion: Companion {
+                registers: Registers {
+                    control: told(registers.control, rung, next.century),
+                    time: followed(registers.control, advanced, registers.time),
+                    ..registers
+                },
+                core: advanced,
+                ..self
+            },
+            rolled: next.rolled,
         }
     }
 
     // A tick: nothing changes while the oscillator is off.
+    #[tactic(auto, unfolding(crate::specs::Tick::tick_of, crate::specs::Tick::rolled_of))]
     pub fn tick(self) -> Ticked
         ensures { result ≡ ticked_of (tick_of self) (rolled_of self) }
     {

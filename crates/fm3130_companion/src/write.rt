@@ -5,7 +5,7 @@ ghost use Rattle.fm3130_registers.specs.Map.{TRIM, LAST};
 ghost use Rattle.fm3130_companion.specs.Write.{control_written, trim_written};
 ghost use Rattle.fm3130_companion.specs.Write.{byte_stored, time_written, written_of};
 
-use crate::Companion;
+use crate::{Companion, Registers};
 use bits::has;
 use fm3130_registers::control::{control_after, core_after, time_after};
 use fm3130_registers::map::{CONTROL, TRIM, W, YEARS};
@@ -19,12 +19,14 @@ impl Companion {
         let registers = self.registers;
         let old = registers.control;
         let core = core_after(old, byte, self.core, registers.time);
-        let time = time_after(old, byte, core, registers.time);
-        let control = control_after(old, byte);
         Companion {
-            registers: registers.with_time(control, time),
-            core: core,
-            address: self.address,
+            registers: Registers {
+                control: control_after(old, byte),
+                time: time_after(old, byte, core, registers.time),
+                ..registers
+            },
+            core,
+            ..self
         }
     }
 
@@ -34,7 +36,10 @@ impl Companion {
     {
         let registers = self.registers;
         let trim = trim_after(registers.control, registers.trim, byte);
-        self.with_registers(registers.put(TRIM, trim))
+        Companion {
+            registers: Registers { trim, ..registers },
+            ..self
+        }
     }
 
     // A write to a register that keeps its stored bits at any time.
@@ -42,10 +47,11 @@ impl Companion {
         requires { (TRIM < self.address) × (self.address ≤ LAST) }
         ensures { result ≡ byte_stored self byte }
     {
-        let address = self.address;
-        let registers = self.registers;
-        let kept = stored(address, byte);
-        self.with_registers(registers.put(address, kept))
+        let kept = stored(self.address, byte);
+        Companion {
+            registers: self.registers.put(self.address, kept),
+            ..self
+        }
     }
 
     // A write to one of 02h to 08h: stored only with W at 1.
@@ -64,16 +70,11 @@ impl Companion {
         requires { self.address ≤ LAST }
         ensures { result ≡ written_of self byte }
     {
-        let address = self.address;
-        if address == CONTROL {
-            return self.control_written(byte);
+        match self.address {
+            CONTROL => self.control_written(byte),
+            TRIM => self.trim_written(byte),
+            ..=YEARS => self.time_written(byte),
+            _ => self.byte_stored(byte),
         }
-        if address == TRIM {
-            return self.trim_written(byte);
-        }
-        if address <= YEARS {
-            return self.time_written(byte);
-        }
-        self.byte_stored(byte)
     }
 }

@@ -8,12 +8,9 @@ use crate::places::{
     ALARM_DATE_AT, ALARM_HOURS_AT, ALARM_MINUTES_AT, ALARM_MONTH_AT, ALARM_SECONDS_AT, CONTROL_AT,
     CORE_SECONDS_AT, SECONDS_AT, SETUP_AT, TRIM_AT,
 };
-use bus_image::bytes::pair;
-use bus_image::layout::{phase_of, power_of};
-use bus_image::places::{
-    ADDRESS_HIGH_AT, ADDRESS_LOW_AT, BYTE_AT, CLOCKS_AT, COMPANION_ADDRESS_AT, FIRST_AT, PHASE_AT,
-    SUPPLIES_AT,
-};
+use bus::Bus;
+use bus_image::layout::bus_at;
+use bus_image::places::COMPANION_ADDRESS_AT;
 use calendar::Calendar;
 use fm3130::State;
 use fm3130_companion::{Alarm, Companion, Registers};
@@ -39,19 +36,17 @@ fn registers_of(image: &[u8]) -> Registers
     requires { length image.now ≡ image_size }
     ensures { result ≡ registers_of image.now }
 {
-    let time = calendar_at(image, SECONDS_AT);
-    let alarm = Alarm {
-        seconds: image[ALARM_SECONDS_AT],
-        minutes: image[ALARM_MINUTES_AT],
-        hours: image[ALARM_HOURS_AT],
-        date: image[ALARM_DATE_AT],
-        month: image[ALARM_MONTH_AT],
-    };
     Registers {
         control: image[CONTROL_AT],
         trim: image[TRIM_AT],
-        time: time,
-        alarm: alarm,
+        time: calendar_at(image, SECONDS_AT),
+        alarm: Alarm {
+            seconds: image[ALARM_SECONDS_AT],
+            minutes: image[ALARM_MINUTES_AT],
+            hours: image[ALARM_HOURS_AT],
+            date: image[ALARM_DATE_AT],
+            month: image[ALARM_MONTH_AT],
+        },
         setup: image[SETUP_AT],
     }
 }
@@ -61,11 +56,9 @@ pub fn companion_at(image: &[u8]) -> Companion
     requires { length image.now ≡ image_size }
     ensures { result ≡ companion_at image.now }
 {
-    let registers = registers_of(image);
-    let core = calendar_at(image, CORE_SECONDS_AT);
     Companion {
-        registers: registers,
-        core: core,
+        registers: registers_of(image),
+        core: calendar_at(image, CORE_SECONDS_AT),
         address: image[COMPANION_ADDRESS_AT],
     }
 }
@@ -75,19 +68,15 @@ pub fn state_at(image: &[u8]) -> State
     requires { length image.now ≡ image_size }
     ensures { result ≡ candidate image.now }
 {
-    let companion = companion_at(image);
-    let address = pair(image[ADDRESS_HIGH_AT], image[ADDRESS_LOW_AT]);
-    let power = power_of(image[SUPPLIES_AT]);
-    let phase = phase_of(
-        image[PHASE_AT],
-        image[CLOCKS_AT],
-        image[BYTE_AT],
-        image[FIRST_AT],
-    );
+    let Bus {
+        power,
+        phase,
+        address,
+    } = bus_at(image);
     State {
-        power: power,
-        phase: phase,
-        address: address,
-        companion: companion,
+        power,
+        phase,
+        address,
+        companion: companion_at(image),
     }
 }

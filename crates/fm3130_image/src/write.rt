@@ -3,8 +3,7 @@
 ghost use Rattle.std.specs.Prelude.{◌≡◌, ◌≤◌, length, drop};
 ghost use Rattle.std.proofs.lemmas.List.Edits.{sets};
 ghost use Rattle.fm3130_companion.specs.Registers.{register_bytes};
-ghost use Rattle.bus_image.specs.Places.{ADDRESS_HIGH_AT};
-ghost use Rattle.fm3130_image.specs.Image.{image_size, calendar_bytes, bus_bytes, image_of};
+ghost use Rattle.fm3130_image.specs.Image.{image_size, calendar_bytes, image_of};
 ghost use Rattle.fm3130_image.specs.Code.Accepting.{the_end, companion_bytes};
 
 use crate::LENGTH;
@@ -12,12 +11,9 @@ use crate::places::{
     ALARM_DATE_AT, ALARM_HOURS_AT, ALARM_MINUTES_AT, ALARM_MONTH_AT, ALARM_SECONDS_AT, CONTROL_AT,
     CORE_SECONDS_AT, SECONDS_AT, SETUP_AT, TRIM_AT,
 };
-use bus_image::bytes::copy;
-use bus_image::layout::{power_number, transfer_of};
-use bus_image::places::{
-    ADDRESS_HIGH_AT, ADDRESS_LOW_AT, BYTE_AT, CLOCKS_AT, COMPANION_ADDRESS_AT, FIRST_AT, LAYOUT_AT,
-    MARK_HIGH_AT, MARK_LOW_AT, PHASE_AT, SUPPLIES_AT,
-};
+use bus::Bus;
+use bus_image::layout::write_bus;
+use bus_image::places::{COMPANION_ADDRESS_AT, LAYOUT_AT, MARK_HIGH_AT, MARK_LOW_AT};
 use calendar::Calendar;
 use fm3130::State;
 use fm3130_companion::{Companion, Registers};
@@ -41,10 +37,9 @@ fn write_registers(registers: Registers, image: &mut [u8])
     requires { length image.old ≡ image_size }
     ensures { image.new ≡ sets image.old 0 (register_bytes registers) }
 {
-    let time = registers.time;
     image[CONTROL_AT] = registers.control;
     image[TRIM_AT] = registers.trim;
-    write_calendar(time, image, SECONDS_AT);
+    write_calendar(registers.time, image, SECONDS_AT);
     image[ALARM_SECONDS_AT] = registers.alarm.seconds;
     image[ALARM_MINUTES_AT] = registers.alarm.minutes;
     image[ALARM_HOURS_AT] = registers.alarm.hours;
@@ -58,29 +53,9 @@ pub fn write_companion(companion: Companion, image: &mut [u8])
     requires { length image.old ≡ image_size }
     ensures { image.new ≡ sets image.old 0 (companion_bytes companion) }
 {
-    let registers = companion.registers;
-    let core = companion.core;
-    write_registers(registers, image);
-    write_calendar(core, image, CORE_SECONDS_AT);
+    write_registers(companion.registers, image);
+    write_calendar(companion.core, image, CORE_SECONDS_AT);
     image[COMPANION_ADDRESS_AT] = companion.address;
-}
-
-// Writes a state's memory address, its supplies and where a transfer stands over bytes 23 to 29 of an image.
-fn write_bus(state: State, image: &mut [u8])
-    requires { length image.old ≡ image_size }
-    ensures { image.new ≡ sets image.old ADDRESS_HIGH_AT (drop 1 (bus_bytes state)) }
-{
-    let power = state.power;
-    let phase = state.phase;
-    let supplies = power_number(power);
-    let transfer = transfer_of(phase);
-    image[ADDRESS_HIGH_AT] = (state.address / 256) as u8;
-    image[ADDRESS_LOW_AT] = (state.address % 256) as u8;
-    image[SUPPLIES_AT] = supplies;
-    image[PHASE_AT] = transfer.phase;
-    image[CLOCKS_AT] = transfer.clocks;
-    image[BYTE_AT] = transfer.byte;
-    image[FIRST_AT] = transfer.first;
 }
 
 // Writes a state's image over one that is accepted: its first 30 bytes, since the others are those of every image.
@@ -88,9 +63,19 @@ pub fn write_over(state: State, image: &mut [u8])
     requires { (length image.old ≡ image_size) × (drop 30 image.old ≡ the_end) }
     ensures { image.new ≡ image_of state }
 {
-    let companion = state.companion;
+    let State {
+        power,
+        phase,
+        address,
+        companion,
+    } = state;
     write_companion(companion, image);
-    write_bus(state, image);
+    let bus = Bus {
+        power,
+        phase,
+        address,
+    };
+    write_bus(image, bus);
 }
 
 // The image that a state writes: its first 30 bytes over zeros and the mark.
@@ -110,6 +95,5 @@ pub fn write_image(state: State, image: &mut [u8])
     requires { length image.old ≡ image_size }
     ensures { image.new ≡ image_of state }
 {
-    let written = image_of(state);
-    copy(&written, image);
+    image.copy_from_slice(&image_of(state));
 }

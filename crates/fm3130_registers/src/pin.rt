@@ -1,35 +1,39 @@
 // SPDX-License-Identifier: Apache-2.0
 // What 00h and 0Eh show outside: the ACS pin.
 ghost use Rattle.std.specs.Prelude.{◌≡◌, ◌≤◌};
-ghost use Rattle.fm3130_registers.specs.Pin.{pin_by};
+ghost use Rattle.fm3130_registers.specs.Pin.{number_of, function_of, pin_by};
 
 use crate::map::{AEN, AF, ALSW, CAL};
-use bits::has;
+use bits::{has, only};
 
-// The functions of the pin.
-const RELEASED: u8 = 0;
+// The functions of the pin, each with its number.
+#[derive(Clone, Copy, PartialEq, Eq, Debug)]
+enum Function {
+    Released = 0,
+    Alarm = 1,
+    Square = 2,
+    Calibration = 3,
+}
 
-const ALARM: u8 = 1;
-
-const SQUARE: u8 = 2;
-
-const CALIBRATION: u8 = 3;
+// The function that 00h and 0Eh choose.
+fn function_of(control: u8, setup: u8) -> Function
+    ensures { number_of result ≡ function_of control setup }
+{
+    if has(control, CAL) {
+        Function::Calibration
+    } else if !has(setup, ALSW) {
+        Function::Square
+    } else if has(control, AEN) {
+        Function::Alarm
+    } else {
+        Function::Released
+    }
+}
 
 // Bits 3 to 1 of an answer as a number, by 00h and 0Eh: the function, and 4 more where it is alarm and AF is 1.
 pub fn pin_by(control: u8, setup: u8) -> u8
     ensures { (result ≡ pin_by control setup) × (result ≤ 7) }
 {
-    if has(control, CAL) {
-        return CALIBRATION;
-    }
-    if !has(setup, ALSW) {
-        return SQUARE;
-    }
-    if !has(control, AEN) {
-        return RELEASED;
-    }
-    if has(control, AF) {
-        return ALARM + 4;
-    }
-    ALARM
+    let function = function_of(control, setup);
+    function as u8 + only((function == Function::Alarm) & has(control, AF), 4)
 }

@@ -21,17 +21,12 @@ pub fn stored(address: u8, byte: u8) -> u8
     ensures { result ≡ stored_at address byte }
 {
     match address {
-        2 => byte % 128,
-        3 => byte % 128,
-        4 => byte % 64,
+        2 | 3 => byte % 128,
+        4 | 6 => byte % 64,
         5 => byte % 8,
-        6 => byte % 64,
         7 => byte % 32,
-        8 => byte,
-        9 => top_and_below(128, byte),
-        10 => top_and_below(128, byte),
-        11 => top_and_below(64, byte),
-        12 => top_and_below(64, byte),
+        9 | 10 => top_and_below(128, byte),
+        11 | 12 => top_and_below(64, byte),
         13 => top_and_below(32, byte),
         _ => byte,
     }
@@ -41,8 +36,6 @@ pub fn stored(address: u8, byte: u8) -> u8
 pub fn trim_after(control: u8, old: u8, byte: u8) -> u8
     ensures { result ≡ trim_after control old byte }
 {
-    if has(control, CAL) {
-        return byte / 128 * 128 + byte % 64;
-    }
-    byte / 128 * 128 + old % 64
+    let taken = if has(control, CAL) { byte } else { old };
+    byte / 128 * 128 + taken % 64
 }

@@ -7,7 +7,7 @@ use Rattle.bits.proofs.Cases.{by_cond, Below, none, ◌then◌, below}
 use Rattle.fm31_counters.specs.declared.Input.{Input}
 use Rattle.fm31_counters.specs.declared.Registers.{Registers}
 use Rattle.fm31_counters.specs.declared.Counters.{Counters}
-use Rattle.fm31_counters.specs.declared.Taken.{Taken}
+use Rattle.fm31_counters.specs.Part.{Taken}
 use Rattle.fm31_counters.specs.Map.{SERIAL, TOP, SNL}
 use Rattle.fm31_counters.specs.Registers.{register_bytes, registers_of, put_at}
 use Rattle.fm31_counters.specs.Write.{control_after, kept_at, is_locked, registers_after, written_of}
@@ -60,15 +60,15 @@ module _ (r : Registers) (b : ℕ) (h : is_locked r ≡ true) where
   registers_kept : (a : ℕ) → Kept r (registers_after r a b)
   registers_kept a = rw (by_lock a (is_locked r) h) (after_kept a (leb SERIAL a) refl)
 
-pub store_keeps : (b : ℕ) → KeepsSerial (λ c. (store_of c b).counters)
+pub store_keeps : (b : ℕ) → KeepsSerial (λ c. (store_of c b).companion)
 unfolding store_of written_of
 store_keeps b c h =
     let k = registers_kept c.registers b h c.address in record { locked = k.locked; serial = k.serial }
 
-pub aim_keeps : (b : ℕ) → KeepsSerial (λ c. (aim_of c b).counters)
+pub aim_keeps : (b : ℕ) → KeepsSerial (λ c. (aim_of c b).companion)
 unfolding aim_of
 aim_keeps b c h =
-    by_cond (λ (t : Taken). SerialKept c t.counters) (is_register b)
+    by_cond (λ (t : Taken). SerialKept c t.companion) (is_register b)
     (λ e. record { locked = h; serial = refl }) (λ e. record { locked = h; serial = refl })
 
 pub loaded_keeps : (b : ℕ) → KeepsSerial (λ c. loaded_of c b)

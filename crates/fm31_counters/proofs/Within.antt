@@ -9,7 +9,7 @@ use Rattle.bits.proofs.Cases.{by_cond, Below, none, ◌then◌, below}
 use Rattle.fm31_counters.specs.declared.Input.{Input}
 use Rattle.fm31_counters.specs.declared.Registers.{Registers}
 use Rattle.fm31_counters.specs.declared.Counters.{Counters}
-use Rattle.fm31_counters.specs.declared.Taken.{Taken}
+use Rattle.fm31_counters.specs.Part.{Taken}
 use Rattle.fm31_counters.specs.Map.{FIRST, TOP, LAST, SERIAL, WTR, POR, LB, SNL}
 use Rattle.fm31_counters.specs.Registers.{register_bytes, registers_of, put_at}
 use Rattle.fm31_counters.specs.Change.{with_address}
@@ -151,11 +151,11 @@ stepped_within c w =
       registers = w.registers;
     })
 
-pub aim_within : (c : Counters) → is_within c ≡ true → (b : ℕ) → is_within (aim_of c b).counters ≡ true
+pub aim_within : (c : Counters) → is_within c ≡ true → (b : ℕ) → is_within (aim_of c b).companion ≡ true
 unfolding aim_of
 aim_within c h b =
     let w = within_facts c h in
-    by_cond (λ (t : Taken). is_within t.counters ≡ true) (is_register b)
+    by_cond (λ (t : Taken). is_within t.companion ≡ true) (is_register b)
     (λ e. let g = and_split (leb FIRST b) (leb b LAST) e in
     within_test (with_address c b)
     (record { least = leb-true _ _ g.0; most = leb-true _ _ g.1; registers = w.registers }))
@@ -166,13 +166,13 @@ unfolding aim_of
 aim_acknowledged c b = by_test (is_register b)
   where
     by_test : (t : Bool)
-        → (cond {A = Taken} t (record { counters = with_address c b; acknowledged = true })
-        (record { counters = c; acknowledged = false })
+        → (cond {A = Taken} t (record { companion = with_address c b; acknowledged = true })
+        (record { companion = c; acknowledged = false })
         ).acknowledged ≡ t
     by_test true = refl
     by_test false = refl
 
-pub store_within : (c : Counters) → is_within c ≡ true → (b : ℕ) → is_within (store_of c b).counters ≡ true
+pub store_within : (c : Counters) → is_within c ≡ true → (b : ℕ) → is_within (store_of c b).companion ≡ true
 unfolding store_of written_of
 store_within c h b =
     let w = within_facts c h in

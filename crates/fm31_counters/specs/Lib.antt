@@ -8,5 +8,6 @@ pub mod Edge
 pub mod Power
 pub mod Limits
 pub mod Part
+pub mod Ways
 pub mod Lock
 pub mod Cases

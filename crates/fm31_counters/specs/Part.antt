@@ -1,6 +1,7 @@
 -- SPDX-License-Identifier: Apache-2.0
 -- The companion as a device uses it: what a byte of a transfer does to it (01, Transfers; 02, number 5, for the
 -- addresses), and, passed on from the other files, edges, the loss of power, and the limits.
+--   Taken                     what taking a byte leaves
 --   next_address, stepped_of   the address after one; the companion there
 --   aim_of, store_of           an address byte; a data byte at its eighth clock
 --   shown, load_of            the registers as a read shows them; the byte that a read sends
@@ -10,7 +11,7 @@ use Rattle.std.specs.Prelude.{ℕ, ◌+◌, ◌/◌, ◌%◌, true, false, cond,
 use Rattle.bits.specs.Weight.{has}
 use Rattle.fm31_counters.specs.declared.Registers.{Registers}
 use Rattle.fm31_counters.specs.declared.Counters.{Counters}
-use Rattle.fm31_counters.specs.declared.Taken.{Taken}
+use Rattle.bus_deeds.specs.declared.serve.Taken as serve
 use Rattle.fm31_counters.specs.Map.{FIRST, TOP, LAST, WP0, RC}
 use Rattle.fm31_counters.specs.Registers.{register_at}
 use Rattle.fm31_counters.specs.Change.{with_counts, with_registers, with_address}
@@ -19,6 +20,10 @@ use Rattle.fm31_counters.specs.Limits.{is_register}
 unfoldable pub use Rattle.fm31_counters.specs.Edge.{edge_of}
 unfoldable pub use Rattle.fm31_counters.specs.Power.{backed_of, lost_of, returned_of, blank_of}
 unfoldable pub use Rattle.fm31_counters.specs.Limits.{is_within}
+
+-- Auxiliary: what taking a byte leaves.
+abbrev pub Taken : Type 0
+Taken = serve.Taken Counters
 
 -- "Rolls from 18h to 09h (our ruling)."
 abbrev pub next_address : ℕ → ℕ
@@ -31,12 +36,12 @@ stepped_of c = with_address c (next_address c.address)
 -- "An address byte outside them is not acknowledged"; 01: the "old address stands".
 unfoldable pub aim_of : Counters → ℕ → Taken
 aim_of c b =
-    cond (is_register b) (record { counters = with_address c b; acknowledged = true })
-    (record { counters = c; acknowledged = false })
+    cond (is_register b) (record { companion = with_address c b; acknowledged = true })
+    (record { companion = c; acknowledged = false })
 
 -- 01, Transfers: "A data byte is stored at its eighth clock, and then the address steps on".
 unfoldable pub store_of : Counters → ℕ → Taken
-store_of c b = record { counters = stepped_of (written_of c b); acknowledged = true }
+store_of c b = record { companion = stepped_of (written_of c b); acknowledged = true }
 
 -- 003: the snapshot allows "a stable value even if a count occurs during the read": while RC is 1, 0Dh to 10h show it.
 abbrev pub shown : Counters → Registers

@@ -13,8 +13,7 @@ impl Registers {
         requires { (FIRST ≤ address) × (address ≤ LAST) }
         ensures { result ≡ register_at self address }
     {
-        let place = address - FIRST;
-        match place {
+        match address - FIRST {
             0 => self.flags,
             1 => self.watchdog,
             2 => self.control,
@@ -39,8 +38,7 @@ impl Registers {
         requires { (FIRST ≤ address) × (address ≤ LAST) }
         ensures { result ≡ put_at self address byte }
     {
-        let place = address - FIRST;
-        match place {
+        match address - FIRST {
             0 => self.flags = byte,
             1 => self.watchdog = byte,
             2 => self.control = byte,

@@ -10,10 +10,11 @@ use crate::{Counters, Registers};
 pub(crate) fn is_register(address: u8) -> bool
     ensures { result ≡ is_register address }
 {
-    (FIRST <= address) & (address <= LAST)
+    (FIRST..=LAST).contains(&address)
 }
 
 impl Registers {
+    #[tactic(auto, unfolding(crate::specs::Limits::registers_within))]
     fn is_within(self) -> bool
         ensures { result ≡ registers_within self }
     {
@@ -26,10 +27,10 @@ impl Registers {
 
 impl Counters {
     // Whether the companion is within its limits.
+    #[tactic(auto, unfolding(crate::specs::Limits::is_within))]
     pub fn is_within(self) -> bool
         ensures { result ≡ is_within self }
     {
-        let registers = self.registers;
-        is_register(self.address) & registers.is_within()
+        is_register(self.address) & self.registers.is_within()
     }
 }

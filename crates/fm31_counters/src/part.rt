@@ -1,14 +1,19 @@
 // SPDX-License-Identifier: Apache-2.0
-// The companion in a transfer: an address byte, a data byte, a byte that is read and the end of that read; and the
-// protection of memory.
+// The companion as an event asks it: an address byte, a data byte, a byte that is read and the end of that read, an edge,
+// power lost and returned; and the protection of memory.
 ghost use Rattle.std.specs.Prelude.{◌≡◌, ◌≤◌};
 ghost use Rattle.fm31_counters.specs.Map.{FIRST, LAST};
 ghost use Rattle.fm31_counters.specs.Part.{next_address, stepped_of, aim_of, store_of, shown, load_of, released, loaded_of, guard_of};
+ghost use Rattle.fm31_counters.specs.Part.{backed_of, lost_of, returned_of};
+ghost use Rattle.fm31_counters.specs.Ways.{ways31, beaten};
 
 use crate::limits::is_register;
 use crate::map::{FIRST, LAST, RC, TOP, WP0};
-use crate::{Counters, Registers, Taken};
+use crate::power::por_set;
+use crate::{Counters, Counts, Input, Registers};
 use bits::has;
+use bus::Beat;
+use bus_deeds::serve::{Desk, Taken};
 
 // The address after one: from 18h back to 09h.
 fn next_address(address: u8) -> u8
@@ -27,35 +32,9 @@ impl Counters {
         requires { self.address ≤ LAST }
         ensures { result ≡ stepped_of self }
     {
-        let next = next_address(self.address);
-        self.with_address(next)
-    }
-
-    // An address byte: taken where a register has that address; else the old address stands.
-    pub fn aim(self, byte: u8) -> Taken
-        ensures { result ≡ aim_of self byte }
-    {
-        if is_register(byte) {
-            return Taken {
-                counters: self.with_address(byte),
-                acknowledged: true,
-            };
-        }
-        Taken {
-            counters: self,
-            acknowledged: false,
-        }
-    }
-
-    // A data byte at its eighth clock: written to the register at the address, and the address steps on.
-    pub fn store(self, byte: u8) -> Taken
-        requires { (FIRST ≤ self.address) × (self.address ≤ LAST) }
-        ensures { result ≡ store_of self byte }
-    {
-        let changed = self.written(byte);
-        Taken {
-            counters: changed.stepped(),
-            acknowledged: true,
+        Counters {
+            address: next_address(self.address),
+            ..self
         }
     }
 
@@ -63,34 +42,88 @@ impl Counters {
     fn shown(self) -> Registers
         ensures { result ≡ shown self }
     {
-        let registers = self.registers;
-        let snapshot = self.snapshot;
-        if has(registers.counting, RC) {
-            return registers.with_counts(snapshot);
+        if has(self.registers.counting, RC) {
+            return Registers {
+                counts: self.snapshot,
+                ..self.registers
+            };
         }
-        registers
-    }
-
-    // The byte at the address.
-    pub fn load(self) -> u8
-        requires { (FIRST ≤ self.address) × (self.address ≤ LAST) }
-        ensures { result ≡ load_of self }
-    {
-        let address = self.address;
-        self.shown().read(address)
+        self.registers
     }
 
     // The companion with RC cleared.
     fn released(self) -> Counters
         ensures { result ≡ released self }
     {
-        let mut registers = self.registers;
-        registers.counting = self.registers.counting % 8;
-        self.with_registers(registers)
+        Counters {
+            registers: Registers {
+                counting: self.registers.counting % 8,
+                ..self.registers
+            },
+            ..self
+        }
+    }
+
+    // WP1 WP0, as a number.
+    pub fn guard(self) -> u8
+        ensures { result ≡ guard_of self }
+    {
+        self.registers.control / WP0 % 4
+    }
+}
+
+impl Desk for Counters {
+    type Told = ();
+
+    ghost ready = { λ c. (FIRST ≤ c.address) × (c.address ≤ LAST) };
+
+    ghost ways = { ways31 };
+
+    ghost told = { λ t c. tt };
+
+    // An address byte: taken where a register has that address; else the old address stands.
+    #[tactic(auto, unfolding(crate::specs::Part::aim_of))]
+    fn aim(self, byte: u8) -> Taken<Counters>
+        ensures { result ≡ aim_of self byte }
+    {
+        if is_register(byte) {
+            return Taken {
+                companion: Counters {
+                    address: byte,
+                    ..self
+                },
+                acknowledged: true,
+            };
+        }
+        Taken {
+            companion: self,
+            acknowledged: false,
+        }
+    }
+
+    // A data byte at its eighth clock: written to the register at the address, and the address steps on.
+    #[tactic(auto, unfolding(crate::specs::Part::store_of, crate::specs::Write::written_of))]
+    fn store(self, byte: u8) -> Taken<Counters>
+        requires { (FIRST ≤ self.address) × (self.address ≤ LAST) }
+        ensures { result ≡ store_of self byte }
+    {
+        Taken {
+            companion: self.written(byte).stepped(),
+            acknowledged: true,
+        }
+    }
+
+    // The byte at the address.
+    fn load(self) -> u8
+        requires { (FIRST ≤ self.address) × (self.address ≤ LAST) }
+        ensures { result ≡ load_of self }
+    {
+        self.shown().read(self.address)
     }
 
     // The end of a read: RC is cleared once the last of the four counter bytes was read; the address steps on.
-    pub fn loaded(self, byte: u8) -> Counters
+    #[tactic(auto, unfolding(crate::specs::Part::loaded_of))]
+    fn loaded(self, byte: u8) -> Counters
         requires { self.address ≤ LAST }
         ensures { result ≡ loaded_of self byte }
     {
@@ -100,10 +133,51 @@ impl Counters {
         self.stepped()
     }
 
-    // WP1 WP0, as a number.
-    pub fn guard(self) -> u8
-        ensures { result ≡ guard_of self }
+    // A tick, which changes nothing, or an edge. Neither tells anything.
+    fn beat(self, beat: Beat) -> (Counters, ())
+        ensures { result ≡ record { 0 = beaten beat self; 1 = tt } }
     {
-        self.registers.control / WP0 % 4
+        let next = match beat {
+            Beat::Second => self,
+            Beat::Cnt1 => self.edge(Input::Cnt1),
+            Beat::Cnt2 => self.edge(Input::Cnt2),
+        };
+        (next, ())
+    }
+
+    // Main power lost with backup: the address is 09h again, the rest is kept.
+    fn backed(self) -> Counters
+        ensures { result ≡ backed_of self }
+    {
+        Counters {
+            address: FIRST,
+            ..self
+        }
+    }
+
+    // Both supplies gone.
+    #[tactic(auto, unfolding(crate::specs::Power::lost_of))]
+    fn lost(self) -> Counters
+        ensures { result ≡ lost_of self }
+    {
+        Counters {
+            registers: self.registers.lost(),
+            snapshot: Counts::default(),
+            address: FIRST,
+        }
+    }
+
+    // Main power back after backup: POR is set.
+    #[tactic(auto, unfolding(crate::specs::Power::returned_of))]
+    fn returned(self) -> Counters
+        ensures { result ≡ returned_of self }
+    {
+        Counters {
+            registers: Registers {
+                flags: por_set(self.registers.flags),
+                ..self.registers
+            },
+            ..self
+        }
     }
 }

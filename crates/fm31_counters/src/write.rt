@@ -64,8 +64,7 @@ impl Registers {
         if self.is_locked() & (SERIAL <= address) {
             return self;
         }
-        let kept = self.kept(address, byte);
-        self.put(address, kept)
+        self.put(address, self.kept(address, byte))
     }
 }
 
@@ -81,16 +80,15 @@ impl Counters {
     }
 
     // A write to the register at the address.
+    #[tactic(auto, unfolding(crate::specs::Write::written_of))]
     pub(crate) fn written(self, byte: u8) -> Counters
         requires { (FIRST ≤ self.address) × (self.address ≤ LAST) }
         ensures { result ≡ written_of self byte }
     {
-        let address = self.address;
-        let registers = self.registers;
         Counters {
-            registers: registers.after(address, byte),
+            registers: self.registers.after(self.address, byte),
             snapshot: self.snapshot_after(byte),
-            address: address,
+            ..self
         }
     }
 }

@@ -20,10 +20,10 @@ use Rattle.bus_deeds.specs.Serve as Serve
 use Rattle.bus_deeds.specs.declared.Deed.{Deed}
 use Rattle.bus_deeds.specs.declared.Deed.TheVariants.{Nothing}
 use Rattle.fm31.specs.Chip.{companion31, event_of}
-use Rattle.fm31.specs.Step.{Ready, served_of, answer_byte}
+use Rattle.fm31.specs.Step.{Ready, served_by, answer_byte}
 use Rattle.fm31.specs.declared.State.{State}
 use Rattle.fm31.specs.declared.Answered as answered
-use Rattle.fm31.specs.declared.Served as served
+use Rattle.bus_deeds.specs.declared.serve.Served as served
 use Rattle.fm31.proofs.Advance.{advanced}
 use Rattle.fm31.proofs.Entry.{ready}
 use Rattle.fm31_image.specs.Image.{image_size, image_of, counters_at, bus_at, candidate}
@@ -78,7 +78,7 @@ module _ (size select : ℕ) (i m : List ℕ) (c : Accepted size select i m) whe
         let t = hs s lies bus_lies in
         let w' : left w m' ≡ went_of size (slave_names_for select) g v.reply s.bus m e =
         hw ∙ (λ k. went_of size (slave_names_for select) g (t.reply k) (bus_lies k) m e) in
-        let z = advanced size select s m m' e g q (served_of v) w a (guard_lies g hg)
+        let z = advanced size select s m m' e g q (served_by q s.counters) w a (guard_lies g hg)
         (hq ∙ ap (λ (x : Bus). deed_of x.power x.phase (happening edges e)) bus_lies) refl w' ha in
         record {
           answer = ap (λ (x : answered.Answered). x.answer) z.result;
@@ -93,15 +93,15 @@ counters_lie s = ap (λ (x : State). x.counters) (candidate_of s)
 
 module _ (s : State) (i : List ℕ) (e : i ≡ image_of s) (q : Deed) where
   -- asked for something: read, done, written beside its bus
-  pub asked : (i' : List ℕ) (u : Bus) (c : Counters) (v : served.Served) → u ≡ s.bus → c ≡ counters_at i
-      → v ≡ served_of (Serve.served_of companion31 q c) → i' ≡ image_of (record { bus = u; counters = v.counters })
+  pub asked : (i' : List ℕ) (u : Bus) (c : Counters) (v : served.Served Counters (Unit {0})) → u ≡ s.bus → c ≡ counters_at i
+      → v ≡ served_by q c → i' ≡ image_of (record { bus = u; counters = v.companion })
       → Served s (Serve.served_of companion31 q s.counters) v.reply i'
   asked i' u c v hu hc hv hi =
       let k : c ≡ s.counters = hc ∙ ap counters_at e ∙ counters_lie s in
-      let w = hv ∙ ap (λ (x : Counters). served_of (Serve.served_of companion31 q x)) k in
+      let w = hv ∙ ap (λ (x : Counters). served_by q x) k in
       record {
-        reply = ap (λ (x : served.Served). x.reply) w;
-        image = hi ∙ (λ t. image_of (record { bus = hu t; counters = (w t).counters }));
+        reply = ap (λ (x : served.Served Counters (Unit {0})). x.reply) w;
+        image = hi ∙ (λ t. image_of (record { bus = hu t; counters = (w t).companion }));
       }
 
   -- asked for nothing

@@ -6,7 +6,8 @@
 use Rattle.std.specs.Prelude.{ℕ, ◌≡◌, true, List, length}
 use Rattle.bus.specs.declared.Reply.{Reply}
 use Rattle.bus_deeds.specs.Serve as Serve
-use Rattle.fm31.specs.Chip.{companion31, Done}
+use Rattle.fm31_counters.specs.declared.Counters.{Counters}
+use Rattle.fm31.specs.Chip.{Done}
 use Rattle.fm31.specs.Step.{state_of, answer_byte}
 use Rattle.fm31.specs.declared.State.{State}
 use Rattle.fm31_image.specs.Image.{image_of}
@@ -18,7 +19,7 @@ pub record Accepted (size select : ℕ) (i m : List ℕ) : Type 0 where
   pub memory : length m ≡ size
 
 -- The bus is as it was.
-pub record Served (s : State) (v : Serve.Served companion31) (r : Reply) (i' : List ℕ) : Type 0 where
+pub record Served (s : State) (v : Serve.Served Counters) (r : Reply) (i' : List ℕ) : Type 0 where
   pub reply : r ≡ v.reply
   pub image : i' ≡ image_of (record { bus = s.bus; counters = v.next })
 

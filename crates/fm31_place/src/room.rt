@@ -11,8 +11,8 @@ ghost use Rattle.fm31_place.specs.Lying.{Served};
 
 use bus::{Bus, Reply};
 use bus_deeds::Deed;
+use bus_deeds::serve::serve;
 use fm31::State;
-use fm31::serve::serve;
 use fm31_image::image::{counters_at, write_image};
 
 // The companion is read, does what it is asked, and is written back beside its bus.
@@ -23,10 +23,9 @@ fn ask(image: &mut [u8], bus: Bus, deed: Deed) -> Reply
 {
     let counters = counters_at(image);
     let served = serve(counters, deed);
-    let next = served.counters;
     let state = State {
-        bus: bus,
-        counters: next,
+        bus,
+        counters: served.companion,
     };
     write_image(state, image);
     served.reply

@@ -8,7 +8,7 @@ use crate::Seat;
 use fm31::{Answered, State};
 
 // Whether the device at a place hears an event.
-fn hears(place: u8, event: u8) -> bool
+pub fn hears_at(place: u8, event: u8) -> bool
     requires { place ≤ 3 }
     ensures { result ≡ hears_at place event }
 {
@@ -16,7 +16,7 @@ fn hears(place: u8, event: u8) -> bool
 }
 
 // The event as the device has it: 8 and 9 are its own edges.
-fn own_byte(event: u8) -> u8
+pub fn own_byte(event: u8) -> u8
     ensures { result ≡ own_byte event }
 {
     if event < 8 {
@@ -41,17 +41,15 @@ pub(crate) fn hear(state: State, memory: &mut [u8], seat: Seat, event: u8, befor
     requires place_bound { seat.place ≤ 3 }
     ensures { HeardAs seat state memory.old event before result memory.new }
 {
-    if hears(seat.place, event) {
-        let own = own_byte(event);
-        let answered = state.advance(memory, seat.size, seat.select, own);
-        let next = answered.state;
+    if hears_at(seat.place, event) {
+        let answered = state.advance(memory, seat.size, seat.select, own_byte(event));
         return Answered {
-            state: next,
+            state: answered.state,
             answer: joined(seat.place, before, answered.answer),
         };
     }
     Answered {
-        state: state,
+        state,
         answer: joined(seat.place, before, 1),
     }
 }

@@ -8,7 +8,7 @@
 // run    a list of events on a device alone
 #![tactic(auto)]
 
-mod hear;
+pub mod hear;
 pub mod list;
 pub mod run;
 mod step;

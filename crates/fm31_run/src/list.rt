@@ -23,10 +23,8 @@ pub fn run_at(
         result memory.new answers.new }
 {
     let mut at = state;
-    let mut i = 0;
-    while i < events.len() {
-        answers[i] = hear_in_place(&mut at, memory, seat, events[i], answers[i]);
-        i += 1;
+    for (i, event) in events.iter().enumerate() {
+        answers[i] = hear_in_place(&mut at, memory, seat, *event, answers[i]);
     }
     at
 }

@@ -31,7 +31,7 @@ pub fn run_events(
         result memory.new answers.new }
 {
     let seat = Seat {
-        size: size,
+        size,
         select: LONE,
         place: 0,
     };

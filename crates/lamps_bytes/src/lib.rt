@@ -3,147 +3,115 @@
 // lamp what the transaction gave and the ticks left.
 #![tactic(auto)]
 
-ghost use Rattle.std.specs.Prelude.{◌≡◌, ◌<◌, length};
-ghost use Rattle.lamps_bytes.specs.Kept.{lamp_in, lamps_in, kept_of, bytes_of, lamp_fits, lamps_fit, is_kept};
-ghost use Rattle.lamps_eight.specs.Eight.{bit};
+ghost use Rattle.std.specs.Prelude.{◌≡◌, ◌<◌, leb, length};
+ghost use Rattle.std.specs.Bool.{then_some};
+ghost use Rattle.lamps_bytes.specs.Kept.{held_in, held_byte, follower_in, lamp_in, lamps_in, kept_of, bytes_of, lamp_fits, lamps_fit, is_kept};
 
-use bus_image::bytes::{copy, pair};
 use lamps::{Follower, Proving};
-use lamps_eight::{Lamp, Lamps};
+use lamps_eight::{Held, Lamp, Lamps};
 
 // The bytes of a record.
 pub const RECORD: usize = 20;
 
-// The lamp in two bytes from a place on.
-fn lamp_in(kept: &[u8], at: usize) -> Lamp
-    requires { (length kept.now ≡ 20) × (at < 19) }
-    ensures { result ≡ lamp_in kept.now at }
+// What a transaction gave, by its byte.
+fn held_in(byte: u8) -> Option<Held>
+    ensures { result ≡ then_some (leb byte 2) (held_in byte) }
 {
-    Lamp {
-        held: kept[at],
-        left: kept[at + 1],
+    match byte {
+        0 => Some(Held::Nothing),
+        1 => Some(Held::Lit),
+        2 => Some(Held::Dark),
+        _ => None,
     }
+}
+
+// The lamp in two bytes from a place on: at most three ticks are left.
+fn lamp_in(kept: &[u8], at: usize) -> Option<Lamp>
+    requires { (length kept.now ≡ 20) × (at < 19) }
+    ensures { result ≡ then_some (lamp_fits kept.now at) (lamp_in kept.now at) }
+{
+    let held = held_in(kept[at])?;
+    let left = kept[at + 1];
+    (left <= 3).then_some(Lamp { held, left })
 }
 
 // The eight lamps, from byte 4 on.
-fn lamps_in(kept: &[u8]) -> Lamps
+fn lamps_in(kept: &[u8]) -> Option<Lamps>
     requires { length kept.now ≡ 20 }
-    ensures { result ≡ lamps_in kept.now }
+    ensures { result ≡ then_some (lamps_fit kept.now) (lamps_in kept.now) }
 {
-    Lamps {
-        zero: lamp_in(kept, 4),
-        one: lamp_in(kept, 6),
-        two: lamp_in(kept, 8),
-        three: lamp_in(kept, 10),
-        four: lamp_in(kept, 12),
-        five: lamp_in(kept, 14),
-        six: lamp_in(kept, 16),
-        seven: lamp_in(kept, 18),
-    }
+    Some(Lamps {
+        zero: lamp_in(kept, 4)?,
+        one: lamp_in(kept, 6)?,
+        two: lamp_in(kept, 8)?,
+        three: lamp_in(kept, 10)?,
+        four: lamp_in(kept, 12)?,
+        five: lamp_in(kept, 14)?,
+        six: lamp_in(kept, 16)?,
+        seven: lamp_in(kept, 18)?,
+    })
 }
 
-// The record that 20 bytes hold.
-pub fn read(kept: &[u8]) -> Proving
+// The byte under way, in bytes 0 to 3.
+fn follower_in(kept: &[u8]) -> Follower
     requires { length kept.now ≡ 20 }
-    ensures { result ≡ kept_of kept.now }
+    ensures { result ≡ follower_in kept.now }
 {
-    let follower = Follower {
+    Follower {
         refused: kept[0] == 1,
-        place: pair(kept[1], kept[2]),
+        place: u16::from_be_bytes([kept[1], kept[2]]),
         byte: kept[3],
-    };
-    let lamps = lamps_in(kept);
-    Proving {
-        follower: follower,
-        lamps: lamps,
     }
 }
 
-// A transaction gave nothing, 1, or something else; at most three ticks are left.
-fn lamp_fits(lamp: Lamp) -> bool
-    ensures { result ≡ lamp_fits lamp }
+// The record that the bytes hold, if they hold one.
+#[tactic(auto, unfolding(crate::specs::Kept::is_kept, crate::specs::Kept::kept_of))]
+pub fn read(kept: &[u8]) -> Option<Proving>
+    ensures { result ≡ then_some (is_kept kept.now) (kept_of kept.now) }
 {
-    (lamp.held <= 2) & (lamp.left <= 3)
-}
-
-// All eight.
-fn lamps_fit(lamps: Lamps) -> bool
-    ensures { result ≡ lamps_fit lamps }
-{
-    let zero = lamps.zero;
-    let one = lamps.one;
-    let two = lamps.two;
-    let three = lamps.three;
-    let four = lamps.four;
-    let five = lamps.five;
-    let six = lamps.six;
-    let seven = lamps.seven;
-    lamp_fits(zero)
-        & lamp_fits(one)
-        & lamp_fits(two)
-        & lamp_fits(three)
-        & lamp_fits(four)
-        & lamp_fits(five)
-        & lamp_fits(six)
-        & lamp_fits(seven)
-}
-
-// Whether the bytes hold a record.
-pub fn is_kept(kept: &[u8]) -> bool
-    ensures { result ≡ is_kept kept.now }
-{
-    if kept.len() != RECORD {
-        return false;
+    if kept.len() != RECORD || kept[0] > 1 || kept[1] > 31 {
+        return None;
     }
-    let lamps = lamps_in(kept);
-    (kept[0] <= 1) & (kept[1] <= 31) & lamps_fit(lamps)
+    let lamps = lamps_in(kept)?;
+    let follower = follower_in(kept);
+    Some(Proving { follower, lamps })
 }
 
-// 1 for true, 0 for false.
-fn flag(set: bool) -> u8
-    ensures { result ≡ bit set 1 }
+// The byte of what a transaction gave.
+fn held_byte(held: Held) -> u8
+    ensures { result ≡ held_byte held }
 {
-    if set {
-        return 1;
-    }
-    0
+    held as u8
 }
 
 // The bytes of a record.
+#[tactic(auto, unfolding(crate::specs::Kept::bytes_of))]
 fn bytes_of(proving: Proving) -> [u8; RECORD]
     ensures { result ≡ bytes_of proving }
 {
-    let follower = proving.follower;
-    let lamps = proving.lamps;
-    let zero = lamps.zero;
-    let one = lamps.one;
-    let two = lamps.two;
-    let three = lamps.three;
-    let four = lamps.four;
-    let five = lamps.five;
-    let six = lamps.six;
-    let seven = lamps.seven;
+    let Proving { follower, lamps } = proving;
+    let [high, low] = follower.place.to_be_bytes();
     [
-        flag(follower.refused),
-        (follower.place / 256) as u8,
-        (follower.place % 256) as u8,
+        u8::from(follower.refused),
+        high,
+        low,
         follower.byte,
-        zero.held,
-        zero.left,
-        one.held,
-        one.left,
-        two.held,
-        two.left,
-        three.held,
-        three.left,
-        four.held,
-        four.left,
-        five.held,
-        five.left,
-        six.held,
-        six.left,
-        seven.held,
-        seven.left,
+        held_byte(lamps.zero.held),
+        lamps.zero.left,
+        held_byte(lamps.one.held),
+        lamps.one.left,
+        held_byte(lamps.two.held),
+        lamps.two.left,
+        held_byte(lamps.three.held),
+        lamps.three.left,
+        held_byte(lamps.four.held),
+        lamps.four.left,
+        held_byte(lamps.five.held),
+        lamps.five.left,
+        held_byte(lamps.six.held),
+        lamps.six.left,
+        held_byte(lamps.seven.held),
+        lamps.seven.left,
     ]
 }
 
@@ -152,6 +120,5 @@ pub fn write(proving: Proving, kept: &mut [u8])
     requires { length kept.old ≡ 20 }
     ensures { kept.new ≡ bytes_of proving }
 {
-    let written = bytes_of(proving);
-    copy(&written, kept);
+    kept.copy_from_slice(&bytes_of(proving));
 }

@@ -17,14 +17,23 @@ pub enum Mark {
     Other,
 }
 
-// A lamp: what the transaction under way gave (0 nothing, 1 lit, 2 dark), and for how many ticks it is still lit.
+// What the transaction under way gave of a lamp's byte. Each has the number by which it lies in a record's bytes.
+#[derive(Clone, Copy, Debug, PartialEq, Eq)]
+pub enum Held {
+    Nothing = 0,
+    Lit = 1,
+    Dark = 2,
+}
+
+// A lamp: what the transaction under way gave, and for how many ticks it is still lit.
 #[derive(Clone, Copy)]
 pub struct Lamp {
-    pub held: u8,
+    pub held: Held,
     pub left: u8,
 }
 
 // The lamps of the bytes at 1000h to 1007h.
+// Stays (fixed): `KeptBytes` speaks of every record, and eight lamps in an array are in `specs` a list of any length
 #[derive(Clone, Copy)]
 pub struct Lamps {
     pub zero: Lamp,

@@ -1,9 +1,10 @@
 // SPDX-License-Identifier: Apache-2.0
 // The eight lamps, by what an event is to them.
 ghost use Rattle.std.specs.Prelude.{◌≡◌, ◌≤◌, ◌-◌};
+ghost use Rattle.lamps_eight.specs.declared.Held.TheVariants.{Nothing};
 ghost use Rattle.lamps_eight.specs.Eight.{lamp, lamp_ended, lamp_gave, lamp_next, lamps_next, dark, bit, shines, byte_of};
 
-use crate::{Lamp, Lamps, Mark};
+use crate::{Held, Lamp, Lamps, Mark};
 
 // The first lamp's address.
 const FIRST: u16 = 0x1000;
@@ -11,34 +12,35 @@ const FIRST: u16 = 0x1000;
 impl Lamp {
     // A lamp that is dark, with nothing read of it.
     fn dark() -> Lamp
-        ensures { result ≡ lamp 0 0 }
+        ensures { result ≡ lamp Nothing 0 }
     {
-        Lamp { held: 0, left: 0 }
+        Lamp {
+            held: Held::Nothing,
+            left: 0,
+        }
     }
 
     // A Stop: what the transaction gave becomes the lamp.
     fn ended(self) -> Lamp
         ensures { result ≡ lamp_ended self }
     {
-        if self.held == 0 {
-            return self;
+        match self.held {
+            Held::Nothing => self,
+            Held::Lit => Lamp {
+                held: Held::Nothing,
+                left: 3,
+            },
+            Held::Dark => Lamp::dark(),
         }
-        if self.held == 1 {
-            return Lamp { held: 0, left: 3 };
-        }
-        Lamp { held: 0, left: 0 }
     }
 
     // A tick: one less.
     fn ticked(self) -> Lamp
         ensures { result ≡ lamp self.held (self.left - 1) }
     {
-        if self.left == 0 {
-            return self;
-        }
         Lamp {
-            held: self.held,
-            left: self.left - 1,
+            left: self.left.saturating_sub(1),
+            ..self
         }
     }
 
@@ -46,16 +48,8 @@ impl Lamp {
     fn gave(self, value: u8) -> Lamp
         ensures { result ≡ lamp_gave value self }
     {
-        if value == 1 {
-            return Lamp {
-                held: 1,
-                left: self.left,
-            };
-        }
-        Lamp {
-            held: 2,
-            left: self.left,
-        }
+        let held = if value == 1 { Held::Lit } else { Held::Dark };
+        Lamp { held, ..self }
     }
 
     // The lamp at an address, after an event.
@@ -66,13 +60,8 @@ impl Lamp {
             Mark::Failed => Lamp::dark(),
             Mark::Ended => self.ended(),
             Mark::Ticked => self.ticked(),
-            Mark::Gave { address, value } => {
-                if address == at {
-                    return self.gave(value);
-                }
-                self
-            }
-            Mark::Other => self,
+            Mark::Gave { address, value } if address == at => self.gave(value),
+            Mark::Gave { .. } | Mark::Other => self,
         }
     }
 
@@ -80,10 +69,7 @@ impl Lamp {
     fn bit(self, weight: u8) -> u8
         ensures { (result ≡ bit (shines self) weight) × (result ≤ weight) }
     {
-        if 0 < self.left {
-            return weight;
-        }
-        0
+        if self.left > 0 { weight } else { 0 }
     }
 }
 
@@ -108,23 +94,15 @@ impl Lamps {
     pub fn next(self, mark: Mark) -> Lamps
         ensures { result ≡ lamps_next mark self }
     {
-        let zero = self.zero;
-        let one = self.one;
-        let two = self.two;
-        let three = self.three;
-        let four = self.four;
-        let five = self.five;
-        let six = self.six;
-        let seven = self.seven;
         Lamps {
-            zero: zero.next(FIRST, mark),
-            one: one.next(FIRST + 1, mark),
-            two: two.next(FIRST + 2, mark),
-            three: three.next(FIRST + 3, mark),
-            four: four.next(FIRST + 4, mark),
-            five: five.next(FIRST + 5, mark),
-            six: six.next(FIRST + 6, mark),
-            seven: seven.next(FIRST + 7, mark),
+            zero: self.zero.next(FIRST, mark),
+            one: self.one.next(FIRST + 1, mark),
+            two: self.two.next(FIRST + 2, mark),
+            three: self.three.next(FIRST + 3, mark),
+            four: self.four.next(FIRST + 4, mark),
+            five: self.five.next(FIRST + 5, mark),
+            six: self.six.next(FIRST + 6, mark),
+            seven: self.seven.next(FIRST + 7, mark),
         }
     }
 
@@ -132,21 +110,13 @@ impl Lamps {
     pub fn byte(self) -> u8
         ensures { result ≡ byte_of self }
     {
-        let zero = self.zero;
-        let one = self.one;
-        let two = self.two;
-        let three = self.three;
-        let four = self.four;
-        let five = self.five;
-        let six = self.six;
-        let seven = self.seven;
-        zero.bit(1)
-            + one.bit(2)
-            + two.bit(4)
-            + three.bit(8)
-            + four.bit(16)
-            + five.bit(32)
-            + six.bit(64)
-            + seven.bit(128)
+        self.zero.bit(1)
+            + self.one.bit(2)
+            + self.two.bit(4)
+            + self.three.bit(8)
+            + self.four.bit(16)
+            + self.five.bit(32)
+            + self.six.bit(64)
+            + self.seven.bit(128)
     }
 }

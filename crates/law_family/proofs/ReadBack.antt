@@ -103,7 +103,7 @@ module _ (r : Registers) (b : ℕ) (small : b < 256) where
 
 -- the companion once the byte was written and the address is the register's again
 abbrev written_at : Counters → ℕ → ℕ → Counters
-written_at c a b = with_address (store_of (with_address c a) b).counters a
+written_at c a b = with_address (store_of (with_address c a) b).companion a
 
 module _ (c : Counters) (a b : ℕ) (l : 9 ≤ a) (h : a ≤ 24) (small : b < 256) (rc : has c.registers.counting 8 ≡ false) where
   not_frozen : is_frozen (written_at c a b) ≡ false
@@ -123,7 +123,7 @@ module _ (c : Counters) (a b : ℕ) (l : 9 ≤ a) (h : a ≤ 24) (small : b < 25
 module _ (size select : ℕ) (p : Phase) (k : ℕ) (m : List ℕ) (c : Counters) (a b : ℕ) (s : select ≤ 3) (l : 9 ≤ a) (h : a ≤ 24)
     (small : b < 256) where
   abbrev stored : Counters
-  stored = (store_of (with_address c a) b).counters
+  stored = (store_of (with_address c a) b).companion
 
   byte_goes : Leads size select (on_bus (Write Companion 0 0) k (with_address c a)) m (nine_clocks b true)
       (on_bus (Write Companion 0 0) k stored) m (nine_bits b false)

@@ -45,7 +45,7 @@ module _ (size select a : ℕ) (m : List ℕ) where
   pub eighth : (c : Counters) (b₀ b₁ b₂ b₃ b₄ b₅ b₆ b₇ : List Beat) (b : ℕ)
       → let rows = eight_rows b₀ b₁ b₂ b₃ b₄ b₅ b₆ b₇ in
       Leads size select (on_bus (Write Companion 0 0) a c) m (write_events rows b)
-      (on_bus (Write Companion 8 (made_of b)) a (store_of (beaten_rows rows c) (made_of b)).counters) m
+      (on_bus (Write Companion 8 (made_of b)) a (store_of (beaten_rows rows c) (made_of b)).companion) m
       (among quiet rows (sent_bits b))
   unfolding clocked received_at place_at kept store_of
   eighth c b₀ b₁ b₂ b₃ b₄ b₅ b₆ b₇ b =
@@ -123,15 +123,15 @@ module _ (size select a : ℕ) (m : List ℕ) (c : Counters) (b₀ b₁ b₂ b�
   abbrev beaten : Counters
   beaten = untouched size select begun m rows
 
-  stored : Leads size select begun m (write_events rows b) (on_bus (Write Companion 8 b) a (store_of beaten b).counters) m
+  stored : Leads size select begun m (write_events rows b) (on_bus (Write Companion 8 b) a (store_of beaten b).companion) m
       (among quiet rows (sent_bits b))
   stored =
       rw (made b small, rows_alone size select (Write Companion 0 0) a m c rows) at
       (eighth size select a m c b₀ b₁ b₂ b₃ b₄ b₅ b₆ b₇ b)
 
-  told : Leads size select begun m (acknowledged rows b d) (on_bus (Write Companion 0 0) a (store_of beaten b).counters) m
+  told : Leads size select begun m (acknowledged rows b d) (on_bus (Write Companion 0 0) a (store_of beaten b).companion) m
       (among quiet rows (sent_bits b) ++ (false ∷ []))
-  told = leads_then size select stored (ninth size select a m (store_of beaten b).counters b d)
+  told = leads_then size select stored (ninth size select a m (store_of beaten b).companion b d)
 
   beaten_address : beaten.address ≡ c.address
   beaten_address =

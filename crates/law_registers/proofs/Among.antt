@@ -23,7 +23,7 @@ use Rattle.wire.proofs.Whole.{made_of, made}
 use Rattle.fm3130_companion.specs.Registers.{register_bytes}
 use Rattle.fm3130_companion.specs.Write.{byte_stored}
 use Rattle.fm3130_companion.specs.Part.{stepped_of, store_of}
-use Rattle.fm3130_companion.specs.declared.Taken.{Taken}
+use Rattle.fm3130_companion.specs.Part.{Taken}
 use Rattle.fm3130_companion.proofs.Bytes.{bytes_of_put}
 use Rattle.fm3130_registers.specs.Stored.{stored_at}
 use Rattle.fm3130.specs.declared.State.{State}

@@ -20,7 +20,7 @@ use Rattle.bus.specs.declared.Power.TheVariants.{On}
 use Rattle.calendar.specs.Next.{is_valid}
 use Rattle.fm3130_companion.specs.Change.{with_address}
 use Rattle.fm3130_companion.specs.Part.{store_of, refused_date}
-use Rattle.fm3130_companion.specs.declared.Taken.{Taken}
+use Rattle.fm3130_companion.specs.Part.{Taken}
 use Rattle.fm3130.specs.Chip.{fm3130}
 use Rattle.fm3130.specs.declared.State.{State}
 use Rattle.wire_clocks.specs.Clocks.{clock_event, clocks_of, eight_clocks}

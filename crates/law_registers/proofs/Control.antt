@@ -12,7 +12,7 @@ use Rattle.wire.specs.declared.Phase.TheVariants.{Write}
 use Rattle.calendar.specs.Next.{is_valid}
 use Rattle.fm3130_companion.specs.Write.{core_written, control_written, written_of}
 use Rattle.fm3130_companion.specs.Part.{stepped_of, loads_bad_date, store_of, refused_date}
-use Rattle.fm3130_companion.specs.declared.Taken.{Taken}
+use Rattle.fm3130_companion.specs.Part.{Taken}
 use Rattle.fm3130.specs.declared.State.{State}
 use Rattle.wire_clocks.specs.Clocks.{last_line}
 use Rattle.law_transfers.proofs.Written.{on_bus}

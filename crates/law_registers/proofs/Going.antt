@@ -19,7 +19,7 @@ use Rattle.fm3130_registers.specs.Control.{control_after}
 use Rattle.fm3130_companion.specs.Change.{with_address}
 use Rattle.fm3130_companion.specs.Write.{core_written, control_written, byte_stored, written_of}
 use Rattle.fm3130_companion.specs.Part.{stepped_of, store_of, tick_of}
-use Rattle.fm3130_companion.specs.declared.Taken.{Taken}
+use Rattle.fm3130_companion.specs.Part.{Taken}
 use Rattle.fm3130.specs.declared.State.{State}
 use Rattle.fm3130_list.specs.Run.{Ended, run_of}
 use Rattle.fm3130_list.proofs.Pieces.{run_append}

@@ -20,7 +20,7 @@ use Rattle.calendar.specs.Next.{is_valid}
 use Rattle.fm3130_companion.specs.Change.{with_address}
 use Rattle.fm3130_companion.specs.Registers.{register_bytes}
 use Rattle.fm3130_companion.specs.Part.{store_of}
-use Rattle.fm3130_companion.specs.declared.Taken.{Taken}
+use Rattle.fm3130_companion.specs.Part.{Taken}
 use Rattle.fm3130.specs.declared.State.{State}
 use Rattle.fm3130_list.specs.Run.{Ended, run_of}
 use Rattle.fm3130_list.proofs.Pieces.{run_append}

@@ -20,7 +20,7 @@ use Rattle.wire.proofs.Clock.{received_inside}
 use Rattle.wire.proofs.Whole.{made_of, made}
 use Rattle.fm3130_companion.specs.Change.{with_address}
 use Rattle.fm3130_companion.specs.Part.{aim_of, store_of}
-use Rattle.fm3130_companion.specs.declared.Taken.{Taken}
+use Rattle.fm3130_companion.specs.Part.{Taken}
 use Rattle.fm3130.specs.Desk.{aims, stores}
 use Rattle.wire_clocks.specs.Clocks.{clock_event, eight_clocks, nine_clocks}
 use Rattle.law_transfers.proofs.Runs.{Leads, start_leads}

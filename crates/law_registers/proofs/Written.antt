@@ -14,7 +14,7 @@ use Rattle.wire.specs.declared.Phase.TheVariants.{Write}
 use Rattle.fm3130_companion.specs.Registers.{register_bytes}
 use Rattle.fm3130_companion.specs.Write.{trim_written, byte_stored, written_of}
 use Rattle.fm3130_companion.specs.Part.{stepped_of, loads_bad_date, store_of}
-use Rattle.fm3130_companion.specs.declared.Taken.{Taken}
+use Rattle.fm3130_companion.specs.Part.{Taken}
 use Rattle.fm3130_companion.proofs.Bytes.{bytes_of_put}
 use Rattle.fm3130.specs.declared.State.{State}
 use Rattle.wire_clocks.specs.Clocks.{last_line}

@@ -5,35 +5,35 @@
 #![tactic(auto)]
 
 use calendar::{Advanced, Calendar};
-use std::io;
+use std::{fmt, io};
 
 // A calendar as the table writes it: time, date, day. Two digits for each BCD byte.
-fn print_calendar(rt: &impl Print, calendar: Calendar) -> io::Result<()> {
-    let Calendar {
-        seconds,
-        minutes,
-        hours,
-        day,
-        date,
-        month,
-        year,
-    } = calendar;
-    print!(rt;
-        "{hours:02x}:{minutes:02x}:{seconds:02x} {date:02x}/{month:02x}/{year:02x} day {day}"
-    )
+#[derive(Clone, Copy)]
+struct Shown(Calendar);
+
+impl fmt::Display for Shown {
+    fn fmt<W: fmt::Write>(&self, f: &mut fmt::Formatter<W>) -> fmt::Result {
+        let Calendar {
+            seconds,
+            minutes,
+            hours,
+            day,
+            date,
+            month,
+            year,
+        } = self.0;
+        write!(
+            f,
+            "{hours:02x}:{minutes:02x}:{seconds:02x} {date:02x}/{month:02x}/{year:02x} day {day}"
+        )
+    }
 }
 
 // One case: a calendar, and what the next second makes of it.
 fn print_case(rt: &impl Print, name: &str, from: Calendar) -> io::Result<()> {
-    print!(rt; "{name} ")?;
-    print_calendar(rt, from)?;
-    print!(rt; " -> ")?;
     let next = from.next();
-    print_calendar(rt, next.calendar)?;
-    if next.century {
-        print!(rt; " CF")?;
-    }
-    println!(rt; "")
+    let flag = if next.century { " CF" } else { "" };
+    println!(rt; "{name} {} -> {}{flag}", Shown(from), Shown(next.calendar))
 }
 
 // The last second of a day.
@@ -42,18 +42,14 @@ fn last_of(day: u8, date: u8, month: u8, year: u8) -> Calendar {
         seconds: 0x59,
         minutes: 0x59,
         hours: 0x23,
-        day: day,
-        date: date,
-        month: month,
-        year: year,
+        day,
+        date,
+        month,
+        year,
     }
 }
 
 fn print_cases(rt: &impl Print) -> io::Result<()> {
-    print_case(rt, "K1", last_of(7, 0x31, 0x12, 0x99))?;
-    print_case(rt, "K2", last_of(4, 0x28, 0x02, 0x08))?;
-    print_case(rt, "K3", last_of(6, 0x28, 0x02, 0x09))?;
-    print_case(rt, "K4", last_of(2, 0x29, 0x02, 0x00))?;
     let noon = Calendar {
         seconds: 0x09,
         minutes: 0x34,
@@ -63,85 +59,75 @@ fn print_cases(rt: &impl Print) -> io::Result<()> {
         month: 0x06,
         year: 0x24,
     };
-    print_case(rt, "K5", noon)?;
     let evening = Calendar {
         seconds: 0x59,
         minutes: 0x59,
         hours: 0x19,
-        day: 6,
-        date: 0x15,
-        month: 0x06,
-        year: 0x24,
+        ..noon
     };
-    print_case(rt, "K6", evening)?;
     let no_such_date = Calendar {
         seconds: 0x00,
         minutes: 0x00,
-        hours: 0x12,
         day: 3,
         date: 0x31,
         month: 0x04,
-        year: 0x24,
+        ..noon
     };
-    print_case(rt, "K7", no_such_date)
+    let cases = [
+        ("K1", last_of(7, 0x31, 0x12, 0x99)),
+        ("K2", last_of(4, 0x28, 0x02, 0x08)),
+        ("K3", last_of(6, 0x28, 0x02, 0x09)),
+        ("K4", last_of(2, 0x29, 0x02, 0x00)),
+        ("K5", noon),
+        ("K6", evening),
+        ("K7", no_such_date),
+    ];
+    for (name, from) in cases {
+        print_case(rt, name, from)?;
+    }
+    Ok(())
 }
 
 // A sum with one more byte; the remainder keeps it small.
 fn with_byte(sum: u32, byte: u8) -> u32 {
-    (sum % 1000003 * 31 + byte as u32) % 1000003
+    (sum % 1000003 * 31 + u32::from(byte)) % 1000003
 }
 
 // A sum with one more midnight: the seven bytes after it, and whether the century ended.
 fn with_midnight(sum: u32, next: Advanced) -> u32 {
     let after = next.calendar;
-    let seconds = with_byte(sum, after.seconds);
-    let minutes = with_byte(seconds, after.minutes);
-    let hours = with_byte(minutes, after.hours);
-    let day = with_byte(hours, after.day);
-    let date = with_byte(day, after.date);
-    let month = with_byte(date, after.month);
-    let year = with_byte(month, after.year);
-    if next.century {
-        with_byte(year, 1)
-    } else {
-        with_byte(year, 0)
-    }
+    [
+        after.seconds,
+        after.minutes,
+        after.hours,
+        after.day,
+        after.date,
+        after.month,
+        after.year,
+        u8::from(next.century),
+    ]
+    .into_iter()
+    .fold(sum, with_byte)
 }
 
-fn print_year(rt: &impl Print, year: u8, sum: u32) -> io::Result<()> {
-    println!(rt; "year {year:02x} sum {sum}")
-}
-
-// How far the walk through the century came: the last second of a day, and the sum over the midnights before it.
-#[derive(Clone, Copy)]
-struct Walk {
-    today: Calendar,
-    sum: u32,
-}
-
-// Over one midnight, to the last second of the next day; a line at the end of a year.
-fn over_midnight(rt: &impl Print, walk: Walk) -> io::Result<Walk> {
-    let today = walk.today;
-    let next = today.next();
-    let sum = with_midnight(walk.sum, next);
-    let after = next.calendar;
-    if after.year != today.year {
-        print_year(rt, today.year, sum)?;
-    }
-    Ok(Walk {
-        today: last_of(after.day, after.date, after.month, after.year),
-        sum: sum,
-    })
-}
-
-// Every midnight of the century, each day reached from the one before.
+// Every midnight of the century, each day reached from the last second of the one before; a line at the end of a year.
 fn print_midnights(rt: &impl Print) -> io::Result<()> {
-    let mut walk = Walk {
-        today: last_of(1, 0x01, 0x01, 0x00),
-        sum: 0,
-    };
-    for _ in 0..36525u32 {
-        walk = over_midnight(rt, walk)?;
+    let mut today = last_of(1, 0x01, 0x01, 0x00);
+    let mut sum = 0;
+    for _ in 0..36525 {
+        let next = today.next();
+        sum = with_midnight(sum, next);
+        let Calendar {
+            day,
+            date,
+            month,
+            year,
+            ..
+        } = next.calendar;
+        if year != today.year {
+            println!(rt; "year {:02x} sum {sum}", today.year)?;
+        }
+        today = last_of(day, date, month, year);
     }
     Ok(())
 }

@@ -14,7 +14,7 @@ use Rattle.pins_levels.proofs.Steps.{saw_on, told_on, driven_same, driven_time, 
 use Rattle.pins_levels.proofs.Stands.{standing, UpTo, AtLow, AtHigh, is_open, is_shut, is_taken, Stands, stands_saw, stands_told, known_clock, known_turn, none_right}
 use Rattle.pins_levels.specs.Wave.{steady, clock_of, turn_of, happened, spelt}
 use Rattle.pins_levels.specs.Look.{Readings, was_high, none, left, late, stayed, first_of, seen_by, fallen, risen, turned, look_of, driven_of, handed_to, hand_of, outlasted, known, events_of}
-use Rattle.pins_levels.specs.Session.{Part, ran, Lawful, Stood, stood, asked, settled_on, settled, Merged, neither, on_bus, handed}
+use Rattle.pins_levels.specs.Session.{Part, ran, Lawful, Stood, stood, asked, settled_on, settled, Merged, neither, on_bus}
 use Rattle.pins_levels.specs.Session.{Deed, saw, told, seen_in, handed_in, begun, step, session, under_way, Account}
 use Rattle.pins_levels.specs.Session.{Faithful, Driven, Opens, Early, AtFall, AtTurn, Still, StillTold, InTimeFirst, InTimeSeen, InTime, InTimeTold, Answers, Stays, LetGo, Shown}
 use Rattle.pins_levels.specs.declared.Seen.{Seen}

@@ -1,6 +1,6 @@
 -- SPDX-License-Identifier: Apache-2.0
 -- What the functions over the token do. Auxiliary: `Session` says what it comes to.
-use Rattle.std.specs.Prelude.{ℕ, Bool, true, false, cond, ◌&&◌, ◌||◌, List, [], ◌∷◌, ◌++◌, eqb, ltb, leb}
+use Rattle.std.specs.Prelude.{ℕ, Bool, true, false, cond, ◌||◌, List, [], ◌∷◌, ◌++◌, eqb, ltb}
 use Rattle.std.specs.Bool.{beq}
 use Rattle.pins_levels.specs.Wave as Wave
 use Rattle.pins_levels.specs.declared.Seen.{Seen}

@@ -3,7 +3,7 @@
 --   packed, unpacked        both ways
 --   levels_of, readings_of    the readings of a look, and those around the turning of SDA, in one number
 --   Small, Fits, RoundTrip  the word says all
-use Rattle.std.specs.Prelude.{ℕ, ◌+◌, ◌*◌, ◌/◌, ◌%◌, ◌<◌, ◌≡◌, Bool, cond, eqb}
+use Rattle.std.specs.Prelude.{ℕ, ◌+◌, ◌*◌, ◌/◌, ◌%◌, ◌<◌, ◌≡◌, cond, eqb}
 use Rattle.pins_levels.specs.Wave.{seen_of}
 use Rattle.pins_levels.specs.Look.{Readings}
 use Rattle.pins_levels.specs.declared.Seen.{Seen}

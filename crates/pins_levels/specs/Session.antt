@@ -15,7 +15,6 @@ use Rattle.pins_levels.specs.Look.{Readings, was_high, stayed, first_of, asks, l
 use Rattle.pins_levels.specs.declared.Seen.{Seen}
 use Rattle.pins_levels.specs.declared.Seen.TheVariants.{Low, Fell, High}
 use Rattle.pins_levels.specs.declared.Token.{Token}
-use Rattle.pins_levels.specs.declared.Due.{Due}
 
 -- The levels that a look leaves: where SCL fell in it, it is low. The same of what a token knows.
 abbrev pub leaves : Seen → Seen

@@ -7,10 +7,9 @@
 pub mod packed;
 
 ghost use Rattle.std.specs.Prelude.{◌≡◌, cond};
-ghost use Rattle.std.specs.Bool.{beq};
 ghost use Rattle.pins_levels.specs.Wave.{seen_of};
 ghost use Rattle.pins_levels.specs.Look.{start_of, first_of, left, stayed, clock_of, fallen, risen, turned, look_of};
-ghost use Rattle.pins_levels.specs.Look.{driven_of, asks, hung, hand_of};
+ghost use Rattle.pins_levels.specs.Look.{driven_of, asks, hand_of};
 
 // What one look sees. SDA is read between two readings of SCL: SCL is low; it was high and fell meanwhile, so that SDA may
 // be the next clock's; it was high both times, and SDA had this level.
@@ -37,14 +36,17 @@ pub struct Token {
     pub low: bool,
     pub high: bool,
     // a tick or power event that waits for the pulse's end, or 8
+    // Stays (C): C's word has four bits for an event, and the five `fm3130_pins_` functions give back all sixteen of their values
     pub waiting: u8,
     // 0, or why the device has left the bus
+    // Stays (C): C's word has a byte for it, and every value comes back
     pub number: u8,
     // what the part answers as it stands, for its other pins
     pub answer: u8,
 }
 
 // The token, and up to three events that are to be done now, in this order; 8 is none.
+// Stays (plain): each of the three has a place of its own in C's word; as an array they would be a list of any length in `specs`
 #[derive(Clone, Copy)]
 pub struct Due {
     pub token: Token,
@@ -68,33 +70,18 @@ pub const LATE: u8 = 0x80;
 pub fn read(scl: bool, sda: bool, again: bool) -> Seen
     ensures { result ≡ seen_of scl sda again }
 {
-    if scl {
-        if again {
-            return Seen::High(sda);
-        }
-        return Seen::Fell;
+    match (scl, again) {
+        (true, true) => Seen::High(sda),
+        (true, false) => Seen::Fell,
+        (false, _) => Seen::Low,
     }
-    Seen::Low
-}
-
-// Two levels are the same.
-fn same(a: bool, b: bool) -> bool
-    ensures { result ≡ beq a b }
-{
-    if a {
-        return b;
-    }
-    !b
 }
 
 // A Clock of a level.
 fn clock(sda: bool) -> u8
     ensures { result ≡ clock_of sda }
 {
-    if sda {
-        return 3;
-    }
-    2
+    if sda { 3 } else { 2 }
 }
 
 // A token with these levels and nothing else.
@@ -102,8 +89,8 @@ fn start(scl: bool, sda: bool) -> Token
     ensures { result ≡ start_of scl sda }
 {
     Token {
-        scl: scl,
-        sda: sda,
+        scl,
+        sda,
         pulse: false,
         pulling: false,
         next: false,
@@ -120,8 +107,7 @@ pub fn first(v: Seen) -> Token
     ensures { result ≡ first_of v }
 {
     match v {
-        Seen::Low => start(false, false),
-        Seen::Fell => start(false, false),
+        Seen::Low | Seen::Fell => start(false, false),
         Seen::High(sda) => start(true, sda),
     }
 }
@@ -131,25 +117,20 @@ pub fn leave(t: Token, number: u8) -> Token
     ensures { result ≡ left t number }
 {
     Token {
-        scl: t.scl,
-        sda: t.sda,
         pulse: false,
         pulling: false,
-        next: t.next,
-        low: t.low,
-        high: t.high,
         waiting: NONE,
-        number: number,
-        answer: t.answer,
+        number,
+        ..t
     }
 }
 
 // Nothing is to be done.
-pub fn stay(t: Token) -> Due
-    ensures { result ≡ stayed t }
+pub fn stay(token: Token) -> Due
+    ensures { result ≡ stayed token }
 {
     Due {
-        token: t,
+        token,
         first: NONE,
         second: NONE,
         third: NONE,
@@ -160,10 +141,7 @@ pub fn stay(t: Token) -> Due
 fn after(t: Token) -> bool
     ensures { result ≡ cond t.sda t.high t.low }
 {
-    if t.sda {
-        return t.high;
-    }
-    t.low
+    if t.sda { t.high } else { t.low }
 }
 
 // SCL has fallen: SDA is turned for the next clock by what was known before. An open pulse was a Clock; what waited
@@ -171,58 +149,37 @@ fn after(t: Token) -> bool
 fn fall(t: Token) -> Due
     ensures { result ≡ fallen t }
 {
-    if t.pulse {
-        let token = Token {
+    if !t.pulse {
+        return stay(Token {
             scl: false,
-            sda: t.sda,
-            pulse: false,
-            pulling: after(t),
-            next: t.next,
-            low: t.low,
-            high: t.high,
-            waiting: NONE,
-            number: t.number,
-            answer: t.answer,
-        };
-        return Due {
-            token: token,
-            first: clock(t.sda),
-            second: t.waiting,
-            third: NONE,
-        };
+            pulling: t.next,
+            ..t
+        });
     }
     let token = Token {
         scl: false,
-        sda: t.sda,
         pulse: false,
-        pulling: t.next,
-        next: t.next,
-        low: t.low,
-        high: t.high,
-        waiting: t.waiting,
-        number: t.number,
-        answer: t.answer,
+        pulling: after(t),
+        waiting: NONE,
+        ..t
     };
-    stay(token)
+    Due {
+        first: clock(t.sda),
+        second: t.waiting,
+        ..stay(token)
+    }
 }
 
 // SCL has risen: a pulse begins, with this level.
 fn rise(t: Token, sda: bool) -> Due
     ensures { result ≡ risen t sda }
 {
-    let token = Token {
+    stay(Token {
         scl: true,
-        sda: sda,
+        sda,
         pulse: true,
-        pulling: t.pulling,
-        next: t.next,
-        low: t.low,
-        high: t.high,
-        waiting: t.waiting,
-        number: t.number,
-        answer: t.answer,
-    };
-    stay(token)
+        ..t
+    })
 }
 
 // SDA has turned while SCL is high: Stop where it rose, Start where it fell. The pulse is no Clock, and what waited comes
@@ -232,75 +189,42 @@ fn turn(t: Token, sda: bool) -> Due
 {
     let token = Token {
         scl: true,
-        sda: sda,
+        sda,
         pulse: false,
-        pulling: t.pulling,
-        next: t.next,
-        low: t.low,
-        high: t.high,
         waiting: NONE,
-        number: t.number,
-        answer: t.answer,
+        ..t
     };
-    if sda {
-        return Due {
-            token: token,
-            first: t.waiting,
-            second: 1,
-            third: NONE,
-        };
-    }
     Due {
-        token: token,
         first: t.waiting,
-        second: 0,
-        third: NONE,
+        second: if sda { 1 } else { 0 },
+        ..stay(token)
     }
 }
 
 // One look. A whole pulse that nobody looked at, come and gone, is late.
+#[tactic(auto, unfolding(crate::specs::Look::look_of))]
 pub fn look(t: Token, v: Seen) -> Due
     ensures { result ≡ look_of t v }
 {
     if t.number != 0 {
         return stay(t);
     }
-    match v {
-        Seen::Low => {
-            if t.scl {
-                return fall(t);
-            }
-            stay(t)
-        }
-        Seen::Fell => {
-            if t.scl {
-                return fall(t);
-            }
-            stay(leave(t, LATE))
-        }
-        Seen::High(sda) => {
-            if t.scl {
-                if same(t.sda, sda) {
-                    return stay(t);
-                }
-                return turn(t, sda);
-            }
-            rise(t, sda)
-        }
+    match (t.scl, v) {
+        (true, Seen::Low | Seen::Fell) => fall(t),
+        (true, Seen::High(sda)) if sda == t.sda => stay(t),
+        (true, Seen::High(sda)) => turn(t, sda),
+        (false, Seen::Low) => stay(t),
+        (false, Seen::Fell) => stay(leave(t, LATE)),
+        (false, Seen::High(sda)) => rise(t, sda),
     }
 }
 
 // SDA was turned, if it had to be, with a reading of SCL before that and one after: both must have seen it low.
+#[tactic(auto, unfolding(crate::specs::Look::driven_of))]
 pub fn driven(pulled: bool, t: Token, before: bool, after: bool) -> Token
     ensures { result ≡ driven_of pulled t (record { before = before; after = after }) }
 {
-    if t.number != 0 {
-        return t;
-    }
-    if same(pulled, t.pulling) {
-        return t;
-    }
-    if before | after {
+    if t.number == 0 && pulled != t.pulling && (before || after) {
         return leave(t, LATE);
     }
     t
@@ -310,80 +234,57 @@ pub fn driven(pulled: bool, t: Token, before: bool, after: bool) -> Token
 pub fn asked(t: Token, next: bool, low: bool, high: bool, answer: u8) -> Token
     ensures { result ≡ asks t next low high answer }
 {
-    let mut pulling = next;
-    if t.scl {
-        pulling = t.pulling;
-    }
     Token {
-        scl: t.scl,
-        sda: t.sda,
-        pulse: t.pulse,
-        pulling: pulling,
-        next: next,
-        low: low,
-        high: high,
-        waiting: t.waiting,
-        number: t.number,
-        answer: answer,
-    }
-}
-
-// A token with another event waiting, and a pulse that is open or not.
-fn with_waiting(t: Token, pulse: bool, waiting: u8) -> Token
-    ensures { result ≡ hung t pulse waiting }
-{
-    Token {
-        scl: t.scl,
-        sda: t.sda,
-        pulse: pulse,
-        pulling: t.pulling,
-        next: t.next,
-        low: t.low,
-        high: t.high,
-        waiting: waiting,
-        number: t.number,
-        answer: t.answer,
+        pulling: if t.scl { t.pulling } else { next },
+        next,
+        low,
+        high,
+        answer,
+        ..t
     }
 }
 
 // A tick or a power event is handed in. With no pulse open it is done at once; else it waits. Where one waits already, the
 // master hangs in the pulse. A byte's eighth Clock must wait for its fall, since a Stop may still cut the byte, so the older
 // event goes before it; any other Clock is taken now, and both events after it.
+#[tactic(auto, unfolding(crate::specs::Look::hand_of))]
 pub fn hand(t: Token, event: u8, eighth: bool) -> Due
     ensures { result ≡ hand_of t event eighth }
 {
     if t.number != 0 {
         return stay(t);
     }
-    if event < 4 {
+    if !matches!(event, 4..=7) {
         return stay(leave(t, UNKNOWN));
     }
-    if event > 7 {
-        return stay(leave(t, UNKNOWN));
-    }
-    if t.pulse {
-        if t.waiting > 7 {
-            return stay(with_waiting(t, true, event));
-        }
-        if eighth {
-            return Due {
-                token: with_waiting(t, true, event),
-                first: t.waiting,
-                second: NONE,
-                third: NONE,
-            };
-        }
+    if !t.pulse {
         return Due {
-            token: with_waiting(t, false, NONE),
-            first: clock(t.sda),
-            second: t.waiting,
-            third: event,
+            first: event,
+            ..stay(t)
         };
     }
+    let hung = Token {
+        waiting: event,
+        ..t
+    };
+    if t.waiting >= NONE {
+        return stay(hung);
+    }
+    if eighth {
+        return Due {
+            first: t.waiting,
+            ..stay(hung)
+        };
+    }
+    let token = Token {
+        pulse: false,
+        waiting: NONE,
+        ..t
+    };
     Due {
-        token: t,
-        first: event,
-        second: NONE,
-        third: NONE,
+        first: clock(t.sda),
+        second: t.waiting,
+        third: event,
+        ..stay(token)
     }
 }

@@ -8,51 +8,35 @@ ghost use Rattle.pins_levels.specs.Packed.{packed, unpacked, levels_of, four_bit
 
 use crate::{Due, Seen, Token, read};
 
-// A weight, or nothing.
-fn bit(on: bool, weight: u64) -> u64
-    ensures { (result ≡ cond on weight 0) × (result ≤ weight) }
-{
-    if on {
-        return weight;
-    }
-    0
-}
-
 // The bits of a token.
 fn bits(t: Token) -> u64
     ensures { (result ≡ Rattle.pins_levels.specs.Packed.bits_of t) × (result ≤ 127) }
 {
-    bit(t.scl, 1)
-        + bit(t.sda, 2)
-        + bit(t.pulse, 4)
-        + bit(t.pulling, 8)
-        + bit(t.next, 16)
-        + bit(t.low, 32)
-        + bit(t.high, 64)
-}
-
-// A byte as a number.
-fn wide(x: u8) -> u64
-    ensures { (result ≡ x) × (result ≤ 255) }
-{
-    x as u64
+    u64::from(t.scl)
+        + 2 * u64::from(t.sda)
+        + 4 * u64::from(t.pulse)
+        + 8 * u64::from(t.pulling)
+        + 16 * u64::from(t.next)
+        + 32 * u64::from(t.low)
+        + 64 * u64::from(t.high)
 }
 
 // An event in four bits: none of them is 0.
 fn four_bits(event: u8) -> u64
     ensures { (result ≡ four_bits event) × (result ≤ 15) }
 {
-    (event as u64 + 8) % 16
+    (u64::from(event) + 8) % 16
 }
 
+#[tactic(auto, unfolding(crate::specs::Packed::packed))]
 pub fn pack(d: Due) -> u64
     ensures { result ≡ packed d }
 {
     let t = d.token;
     bits(t)
         + four_bits(t.waiting) * 0x100
-        + wide(t.answer) * 0x1000
-        + wide(t.number) * 0x10000
+        + u64::from(t.answer) * 0x1000
+        + u64::from(t.number) * 0x10000
         + four_bits(d.first) * 0x1000000
         + four_bits(d.second) * 0x10000000
         + four_bits(d.third) * 0x100000000
@@ -65,20 +49,7 @@ fn event(n: u64) -> u8
     ((n % 16 + 8) % 16) as u8
 }
 
-// The lowest byte.
-fn byte(n: u64) -> u8
-    ensures { result ≡ n % 256 }
-{
-    (n % 256) as u8
-}
-
-// The lowest four bits.
-fn low_four(n: u64) -> u8
-    ensures { result ≡ n % 16 }
-{
-    (n % 16) as u8
-}
-
+#[tactic(auto, unfolding(crate::specs::Packed::unpacked))]
 pub fn unpack(n: u64) -> Due
     ensures { result ≡ unpacked n }
 {
@@ -91,11 +62,11 @@ pub fn unpack(n: u64) -> Due
         low: n / 32 % 2 == 1,
         high: n / 64 % 2 == 1,
         waiting: event(n / 0x100),
-        number: byte(n / 0x10000),
-        answer: low_four(n / 0x1000),
+        number: (n / 0x10000 % 256) as u8,
+        answer: (n / 0x1000 % 16) as u8,
     };
     Due {
-        token: token,
+        token,
         first: event(n / 0x1000000),
         second: event(n / 0x10000000),
         third: event(n / 0x100000000),

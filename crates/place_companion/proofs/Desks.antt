@@ -20,7 +20,7 @@ use Rattle.fm3130_companion.specs.Write.{control_written, trim_written, byte_sto
 use Rattle.fm3130_registers.specs.Map.{next_address}
 use Rattle.fm3130_companion.specs.Part.{stepped_of, aim_of, store_of, load_of, loaded_of}
 use Rattle.fm3130_companion.specs.declared.Companion.{Companion}
-use Rattle.fm3130_companion.specs.declared.Taken.{Taken}
+use Rattle.fm3130_companion.specs.Part.{Taken}
 use Rattle.fm3130.specs.Code.Bus.{with_companion}
 use Rattle.fm3130.specs.declared.State.{State}
 use Rattle.fm3130_image.specs.Image.{image_of}

@@ -2,7 +2,7 @@
 -- One event on one device of a set, and on the set, from what the code finds; what each device of a set has that is fit.
 use Prim.Native.Nat.{ℕ, ◌+◌, ◌/◌}
 use mathlib.Core.Path.{◌≡◌, refl, ap, subst, ◌∙◌}
-use mathlib.Core.Bool.{Bool, true, false, ◌&&◌, ◌||◌}
+use mathlib.Core.Bool.{Bool, true, false, ◌||◌}
 use mathlib.Core.List.{List}
 use lib.Dec.{eqb, ltb}
 use lib.ListN.{length}
@@ -13,12 +13,11 @@ use Rattle.fm31.specs.Chip.{event_of}
 use Rattle.fm31.specs.Step.{Ready, AnsweredWith, answer_byte}
 use Rattle.fm31.specs.declared.Answered.{Answered}
 use Rattle.fm31.proofs.Entry.{ready}
-use Rattle.set_event.specs.Set.{Held, held, Together, Place, first, second, third, fourth, number_of, at, size_in, select_in}
+use Rattle.set_event.specs.Set.{Held, held, Together, Place, number_of, at, size_in, select_in}
 use Rattle.set_event.specs.Set.{hears, own_byte, done_in}
 use Rattle.set_event.specs.Make.{is_lent, is_within}
-use Rattle.set_event.specs.Outcome.{SetFit, HappenedAs}
+use Rattle.set_event.specs.Outcome.{SetFit}
 use Rattle.set_event.specs.Code.Outcome.{Fit, HeardAs}
-use Rattle.set_event.specs.declared.Heard.{Heard}
 use Rattle.set_event.proofs.Facts.{here_is, place_has}
 
 pub heard_here : (n v e : ℕ) → hears n v e ≡ true → ltb v n ≡ true
@@ -92,37 +91,3 @@ heard_from n v h e z o a m p q k w =
 pub heard_no : (n v : ℕ) (h : Held) (e : ℕ) → hears n v e ≡ false
     → HeardAs n v h e (record { member = h.member; line = true }) h.memory
 heard_no n v h e k = record { device = rw k refl; line = rw k refl }
-
-pub happened : (t : Together) (e : ℕ) (a b c d : Heard) (k l m o : List ℕ)
-    → HeardAs t.set.count 0 (at first t) e a k → HeardAs t.set.count 1 (at second t) e b l
-    → HeardAs t.set.count 2 (at third t) e c m → HeardAs t.set.count 3 (at fourth t) e d o
-    → HappenedAs t e
-    (record {
-      set = record {
-        count = t.set.count;
-        first = a.member;
-        second = b.member;
-        third = c.member;
-        fourth = d.member;
-      };
-      line = a.line && (b.line && (c.line && d.line));
-    })
-    k l m o
-happened t e a b c d k l m o p q r s =
-    record {
-      set =
-          λ i. record {
-            set = record {
-              count = t.set.count;
-              first = (p.device i).member;
-              second = (q.device i).member;
-              third = (r.device i).member;
-              fourth = (s.device i).member;
-            };
-            one = (p.device i).memory;
-            two = (q.device i).memory;
-            three = (r.device i).memory;
-            four = (s.device i).memory;
-          };
-      line = λ i. p.line i && (q.line i && (r.line i && s.line i));
-    }

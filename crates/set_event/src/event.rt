@@ -19,29 +19,19 @@ impl Set {
         ensures { HappenedAs (lent_to self one.old two.old three.old four.old) event
             result one.new two.new three.new four.new }
     {
-        let first = self.first;
-        let second = self.second;
-        let third = self.third;
-        let fourth = self.fourth;
-        let a = first.hear(self.count, 0, one, event);
-        let b = second.hear(self.count, 1, two, event);
-        let c = third.hear(self.count, 2, three, event);
-        let d = fourth.hear(self.count, 3, four, event);
-        let line = a.line & (b.line & (c.line & d.line));
-        let a2 = a.member;
-        let b2 = b.member;
-        let c2 = c.member;
-        let d2 = d.member;
-        let set = Set {
-            count: self.count,
-            first: a2,
-            second: b2,
-            third: c2,
-            fourth: d2,
-        };
+        let a = self.first.hear(self.count, 0, one, event);
+        let b = self.second.hear(self.count, 1, two, event);
+        let c = self.third.hear(self.count, 2, three, event);
+        let d = self.fourth.hear(self.count, 3, four, event);
         Happened {
-            set: set,
-            line: line,
+            set: Set {
+                count: self.count,
+                first: a.member,
+                second: b.member,
+                third: c.member,
+                fourth: d.member,
+            },
+            line: a.line & (b.line & (c.line & d.line)),
         }
     }
 }

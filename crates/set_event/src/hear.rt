@@ -1,28 +1,19 @@
 // SPDX-License-Identifier: Apache-2.0
 // One event on one device of a set.
 ghost use Rattle.std.specs.Prelude.{◌≡◌, ◌≤◌};
-ghost use Rattle.set_event.specs.Set.{held, hears, own_byte};
+ghost use Rattle.set_event.specs.Set.{held, hears};
 ghost use Rattle.set_event.specs.Code.Outcome.{Fit, HeardAs};
 
 use crate::{Heard, Member};
 use fm31::step::size_of;
+use fm31_run::hear::{hears_at, own_byte};
 
 // Whether the device at a place, 0 to 3, of so many hears an event.
 fn hears(count: u8, place: u8, event: u8) -> bool
     requires { place ≤ 3 }
     ensures { result ≡ hears count place event }
 {
-    (place < count) & ((event < 8) | (event / 2 == place + 4))
-}
-
-// The event as the device has it: 8 and 9 are its own edges.
-fn own_byte(event: u8) -> u8
-    ensures { result ≡ own_byte event }
-{
-    if event < 8 {
-        return event;
-    }
-    8 + event % 2
+    (place < count) & hears_at(place, event)
 }
 
 impl Member {
@@ -33,18 +24,15 @@ impl Member {
         ensures { HeardAs count place (held self memory.old) event result memory.new }
     {
         if hears(count, place, event) {
-            let size = self.size;
-            let state = self.state;
-            let own = own_byte(event);
-            let answered = state.advance(memory, size_of(size), self.select, own);
-            let next = answered.state;
-            let member = Member {
-                size: size,
-                select: self.select,
-                state: next,
-            };
+            let size = size_of(self.size);
+            let answered = self
+                .state
+                .advance(memory, size, self.select, own_byte(event));
             return Heard {
-                member: member,
+                member: Member {
+                    state: answered.state,
+                    ..self
+                },
                 line: answered.answer == 1,
             };
         }

@@ -1,6 +1,6 @@
 // SPDX-License-Identifier: Apache-2.0
 // A list of events on a set: on each device in turn, the answers joined.
-ghost use Rattle.std.specs.Prelude.{◌≡◌, ◌≤◌, ◌++◌, length, drop, replicate};
+ghost use Rattle.std.specs.Prelude.{◌≡◌, ◌≤◌, length};
 ghost use Rattle.set_event.specs.Set.{most, held};
 ghost use Rattle.set_event.specs.Outcome.{lent_to, SetFit};
 ghost use Rattle.set_event.specs.Code.Outcome.{Fit};
@@ -35,37 +35,19 @@ fn run_member(
         result memory.new answers.new }
 {
     if place < count {
-        let size = member.size;
-        let state = member.state;
         let seat = Seat {
-            size: size_of(size),
+            size: size_of(member.size),
             select: member.select,
-            place: place,
+            place,
         };
-        let last = run_at(state, seat, memory, events, answers);
-        return Member {
-            size: size,
-            select: member.select,
-            state: last,
-        };
+        let state = run_at(member.state, seat, memory, events, answers);
+        return Member { state, ..member };
     }
     member
 }
 
-// No device is on the line, so it stays high: so many answers.
-fn leave_high(count: usize, answers: &mut [u8])
-    requires { count ≤ length answers.old }
-    ensures { answers.new ≡ replicate count 1 ++ drop count answers.old }
-{
-    let mut i = 0;
-    while i < count {
-        answers[i] = 1;
-        i += 1;
-    }
-}
-
-// All events on the devices of a set, one to four or none: the set they lead to. Each device does the whole list before the next one begins: none hears
-// what another does. The answers go to the front of their buffer.
+// All events on the devices of a set, one to four or none: the set they lead to. Each device does the whole list before the next
+// one begins: none hears what another does. The answers go to the front of their buffer.
 pub fn run_events(
     set: Set,
     one: &mut [u8],
@@ -82,22 +64,19 @@ pub fn run_events(
         (lent_to result one.new two.new three.new four.new) answers.new }
 {
     if set.count == 0 {
-        leave_high(events.len(), answers);
+        // No device pulls the line low.
+        answers[..events.len()].fill(1);
         return set;
     }
-    let first = set.first;
-    let second = set.second;
-    let third = set.third;
-    let fourth = set.fourth;
-    let a = run_member(first, set.count, 0, one, events, answers);
-    let b = run_member(second, set.count, 1, two, events, answers);
-    let c = run_member(third, set.count, 2, three, events, answers);
-    let d = run_member(fourth, set.count, 3, four, events, answers);
+    let first = run_member(set.first, set.count, 0, one, events, answers);
+    let second = run_member(set.second, set.count, 1, two, events, answers);
+    let third = run_member(set.third, set.count, 2, three, events, answers);
+    let fourth = run_member(set.fourth, set.count, 3, four, events, answers);
     Set {
         count: set.count,
-        first: a,
-        second: b,
-        third: c,
-        fourth: d,
+        first,
+        second,
+        third,
+        fourth,
     }
 }

@@ -3,12 +3,11 @@
 --   slave_byte, high_byte               touch no device
 --   low_byte, memory_byte, memory_read   serve the memory
 --   pointer_byte, companion_byte, companion_read   serve the companion
-use Rattle.std.specs.Prelude.{ℕ, Bool, true, false}
+use Rattle.std.specs.Prelude.{ℕ, true}
 use Rattle.wire.specs.Slave.{answers, opened}
 use Rattle.wire.specs.Clock.{Taken, Receiver, Sender}
 use Rattle.wire.specs.declared.Side.TheVariants.{Memory, Companion}
 use Rattle.wire.specs.declared.Named.{Named}
-use Rattle.wire.specs.declared.Phase.{Phase}
 use Rattle.wire.specs.declared.Phase.TheVariants.{Slave, AddressHigh, AddressLow, Pointer, Write, Read}
 
 -- Auxiliary: a byte that is taken whatever it is.

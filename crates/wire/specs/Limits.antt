@@ -3,7 +3,7 @@
 -- docs/ and shut out no state that events reach from one between transfers"). Over whom a slave byte names, and which
 -- companion addresses are legal.
 --   bits_fit   a byte's bits are those of the clocks done        phase_within   the limits of each phase
-use Rattle.std.specs.Prelude.{ℕ, ◌^◌, Bool, true, false, cond, ◌&&◌, leb, ltb, eqb}
+use Rattle.std.specs.Prelude.{ℕ, ◌^◌, Bool, true, cond, ◌&&◌, leb, ltb, eqb}
 use Rattle.wire.specs.Slave.{answers}
 use Rattle.wire.specs.declared.Named.{Named}
 use Rattle.wire.specs.declared.Phase.{Phase}

@@ -3,7 +3,7 @@
 -- `Parts`, a device of the larger family another; contracts, theorems and tests all cite this machine at such a value.
 --   Parts   the two devices of a part            clocked, lined, step   one event
 --   State   phase, memory, companion             Answer, answer_of       what is seen of it
-use Rattle.std.specs.Prelude.{ℕ, Bool, true, false}
+use Rattle.std.specs.Prelude.{ℕ, Bool, true}
 use Rattle.wire.specs.Clock.{Half, Taken, received, sent}
 use Rattle.wire.specs.Kinds.{slave_byte, high_byte, low_byte, memory_byte, memory_read, pointer_byte, companion_byte, companion_read}
 use Rattle.wire.specs.declared.Side.TheVariants.{Memory, Companion}

@@ -6,6 +6,7 @@ ghost use Rattle.wire.specs.Kinds.{low_byte};
 ghost use Rattle.wire.specs.Memory.{lent, joined, next, pointed};
 ghost use Rattle.wire.specs.Code.Outcome.{with_address, moved_of};
 
+use crate::between::awaiting;
 use crate::bits::push;
 use crate::nine::{count, receive};
 use crate::{Moved, Phase, Side, Turned};
@@ -15,7 +16,7 @@ fn join(size: u16, high: u8, low: u8) -> u16
     requires { 0 < size }
     ensures { result ≡ joined size high low }
 {
-    (high as u16 * 256 + low as u16) % size
+    u16::from_be_bytes([high, low]) % size
 }
 
 // The address after one, back to 0 after the last.
@@ -31,11 +32,11 @@ impl Turned {
     pub(crate) fn with_address(self, address: u16) -> Moved
         ensures { result ≡ with_address self address }
     {
-        let phase = self.phase;
+        let Turned { phase, line } = self;
         Moved {
-            phase: phase,
-            address: address,
-            line: self.line,
+            phase,
+            address,
+            line,
         }
     }
 }
@@ -51,12 +52,7 @@ pub fn low_clock(size: u16, address: u16, upper: u8, clocks: u8, byte: u8, high:
         clocks: count(clocks),
         byte: low,
     };
-    let after = Phase::Write {
-        side: Side::Memory,
-        clocks: 0,
-        byte: 0,
-    };
-    let turned = receive(clocks, high, next, true, after);
+    let turned = receive(clocks, high, next, true, awaiting(Side::Memory));
     if clocks == 7 {
         return turned.with_address(join(size, upper, low));
     }

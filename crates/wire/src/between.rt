@@ -2,7 +2,7 @@
 // How a transfer goes on or ends between two bytes.
 ghost use Rattle.std.specs.Prelude.{◌≡◌};
 ghost use Rattle.wire.specs.Clock.{kept, more};
-ghost use Rattle.wire.specs.declared.Phase.TheVariants.{Read};
+ghost use Rattle.wire.specs.declared.Phase.TheVariants.{Write, Read};
 
 use crate::{Phase, Side};
 
@@ -10,29 +10,30 @@ use crate::{Phase, Side};
 pub(crate) fn keep(acknowledged: bool, phase: Phase) -> Phase
     ensures { result ≡ kept acknowledged phase }
 {
-    if acknowledged {
-        return phase;
-    }
-    Phase::Idle
+    if acknowledged { phase } else { Phase::Idle }
 }
 
 // The phase after the ninth clock of a byte to the master: its low bit asks for more, its high bit ends the transfer.
 pub(crate) fn go_on(high: bool, phase: Phase) -> Phase
     ensures { result ≡ more high phase }
 {
-    if high {
-        return Phase::Idle;
-    }
-    phase
+    keep(!high, phase)
 }
 
 // A byte to the master, so many of its clocks done.
 pub(crate) fn sending(side: Side, clocks: u8, byte: u8) -> Phase
     ensures { result ≡ Read side clocks byte }
 {
-    Phase::Read {
-        side: side,
-        clocks: clocks,
-        byte: byte,
+    Phase::Read { side, clocks, byte }
+}
+
+// A data byte from the master, none of its clocks done.
+pub(crate) fn awaiting(side: Side) -> Phase
+    ensures { result ≡ Write side 0 0 }
+{
+    Phase::Write {
+        side,
+        clocks: 0,
+        byte: 0,
     }
 }

@@ -7,11 +7,7 @@ ghost use Rattle.wire.specs.Bits.{pushed, sent_bit};
 pub fn push(byte: u8, high: bool) -> u8
     ensures { result ≡ pushed byte high }
 {
-    if high {
-        byte % 128 * 2 + 1
-    } else {
-        byte % 128 * 2
-    }
+    byte % 128 * 2 + u8::from(high)
 }
 
 // The bit of a byte that goes out when so many of its clocks are done.

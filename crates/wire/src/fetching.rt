@@ -22,8 +22,7 @@ pub fn fetch_clock(
     requires { (length memory.now ≡ size) × (address < size) }
     ensures { result ≡ moved_of (sent (memory_read byte_at (stepped_on size)) (lent memory.now address) clocks byte high) }
 {
-    let at = address as usize;
-    let turned = send(Side::Memory, memory[at], clocks, byte, high);
+    let turned = send(Side::Memory, memory[address as usize], clocks, byte, high);
     if clocks == 7 {
         return turned.with_address(next_address(size, address));
     }

@@ -20,7 +20,7 @@ pub mod slave;
 pub mod storing;
 
 // The two devices in one part.
-#[derive(Clone, Copy)]
+#[derive(Clone, Copy, Debug, PartialEq, Eq)]
 pub enum Side {
     Memory,
     Companion,
@@ -28,7 +28,7 @@ pub enum Side {
 
 // Where a transfer stands: which byte is under way, and how many of its clocks, 0 to 8, are done.
 // An ended or refused transfer is Idle, so nothing of it is kept.
-#[derive(Clone, Copy)]
+#[derive(Clone, Copy, Debug, PartialEq, Eq)]
 pub enum Phase {
     // no transfer, or one that has ended
     Idle,
@@ -46,7 +46,7 @@ pub enum Phase {
 }
 
 // Whom a complete slave byte names, and for what.
-#[derive(Clone, Copy)]
+#[derive(Clone, Copy, Debug, PartialEq, Eq)]
 pub enum Named {
     Nobody,
     Reads(Side),
@@ -54,14 +54,14 @@ pub enum Named {
 }
 
 // What a clock leaves where no device is touched: the next phase, and the line.
-#[derive(Clone, Copy)]
+#[derive(Clone, Copy, Debug, PartialEq, Eq)]
 pub struct Turned {
     pub phase: Phase,
     pub line: bool,
 }
 
 // What a clock that serves the memory leaves: the next phase, the memory address, and the line.
-#[derive(Clone, Copy)]
+#[derive(Clone, Copy, Debug, PartialEq, Eq)]
 pub struct Moved {
     pub phase: Phase,
     pub address: u16,
@@ -69,7 +69,7 @@ pub struct Moved {
 }
 
 // What a whole data byte for the memory leaves: the memory address, and whether the byte is acknowledged.
-#[derive(Clone, Copy)]
+#[derive(Clone, Copy, Debug, PartialEq, Eq)]
 pub struct Put {
     pub address: u16,
     pub acknowledged: bool,

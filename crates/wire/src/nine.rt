@@ -13,10 +13,7 @@ use crate::{Phase, Side, Turned};
 pub fn count(clocks: u8) -> u8
     ensures { result ≡ cond (ltb clocks 8) (clocks + 1) 0 }
 {
-    if clocks < 8 {
-        return clocks + 1;
-    }
-    0
+    if clocks < 8 { clocks + 1 } else { 0 }
 }
 
 // A Clock in a byte from the master. `next` is the byte's phase with this clock and its bit, `good` whether the whole byte
@@ -24,45 +21,27 @@ pub fn count(clocks: u8) -> u8
 pub fn receive(clocks: u8, high: bool, next: Phase, good: bool, after: Phase) -> Turned
     ensures { (b : ℕ) → result ≡ turned_of (received (incoming next good after) tt clocks b high) }
 {
-    if clocks < 7 {
-        return Turned {
-            phase: next,
-            line: high,
-        };
-    }
-    if clocks == 7 {
-        return Turned {
-            phase: keep(good, next),
-            line: high,
-        };
-    }
-    Turned {
-        phase: after,
-        line: false,
-    }
+    let (phase, line) = match clocks {
+        0..=6 => (next, high),
+        7 => (keep(good, next), high),
+        _ => (after, false),
+    };
+    Turned { phase, line }
 }
 
 // A Clock in a byte to the master. `first` is the byte at the current address: it is fixed at the first clock.
 pub fn send(side: Side, first: u8, clocks: u8, byte: u8, high: bool) -> Turned
     ensures { result ≡ turned_of (sent (outgoing side first) tt clocks byte high) }
 {
-    if clocks == 0 {
-        let line = sending_line(first, 0, high);
+    if clocks > 7 {
         return Turned {
-            phase: sending(side, 1, first),
-            line: line,
+            phase: go_on(high, sending(side, 0, 0)),
+            line: high,
         };
     }
-    if clocks < 8 {
-        let line = sending_line(byte, clocks, high);
-        return Turned {
-            phase: sending(side, clocks + 1, byte),
-            line: line,
-        };
-    }
-    let phase = sending(side, 0, 0);
+    let fixed = if clocks == 0 { first } else { byte };
     Turned {
-        phase: go_on(high, phase),
-        line: high,
+        phase: sending(side, clocks + 1, fixed),
+        line: sending_line(fixed, clocks, high),
     }
 }

@@ -7,6 +7,7 @@ ghost use Rattle.wire.specs.Clock.{received};
 ghost use Rattle.wire.specs.Kinds.{high_byte};
 ghost use Rattle.wire.specs.Code.Outcome.{turned_of};
 
+use crate::between::sending;
 use crate::bits::push;
 use crate::nine::{count, receive};
 use crate::{Named, Phase, Side, Turned};
@@ -28,11 +29,7 @@ pub fn slave_names(byte: u8) -> Named
 pub fn answers(named: Named) -> bool
     ensures { result ≡ answers named }
 {
-    match named {
-        Named::Nobody => false,
-        Named::Reads(_) => true,
-        Named::Writes(_) => true,
-    }
+    !matches!(named, Named::Nobody)
 }
 
 // The phase after the acknowledge of a slave byte that names so.
@@ -41,15 +38,9 @@ pub fn opened(named: Named) -> Phase
 {
     match named {
         Named::Nobody => Phase::Idle,
-        Named::Reads(side) => Phase::Read {
-            side: side,
-            clocks: 0,
-            byte: 0,
-        },
-        Named::Writes(side) => match side {
-            Side::Memory => Phase::AddressHigh { clocks: 0, byte: 0 },
-            Side::Companion => Phase::Pointer { clocks: 0, byte: 0 },
-        },
+        Named::Reads(side) => sending(side, 0, 0),
+        Named::Writes(Side::Memory) => Phase::AddressHigh { clocks: 0, byte: 0 },
+        Named::Writes(Side::Companion) => Phase::Pointer { clocks: 0, byte: 0 },
     }
 }
 

@@ -1,12 +1,13 @@
 // SPDX-License-Identifier: Apache-2.0
 // Data bytes for the memory: the write protection, the store, and the clocks of such a byte. Over the memory's size.
-ghost use Rattle.std.specs.Prelude.{◌≡◌, List, ℕ, ◌<◌, length};
+ghost use Rattle.std.specs.Prelude.{◌≡◌, ◌<◌, length};
 ghost use Rattle.wire.specs.Clock.{received};
 ghost use Rattle.wire.specs.Kinds.{memory_byte};
-ghost use Rattle.wire.specs.Memory.{lent, protected_below, is_protected, refused_byte, put_byte};
+ghost use Rattle.wire.specs.Memory.{lent, protected_below, is_protected, put_byte};
 ghost use Rattle.wire.specs.Code.Outcome.{MovedWith, PutWith};
 
 use crate::address::next_address;
+use crate::between::awaiting;
 use crate::bits::push;
 use crate::nine::{count, receive};
 use crate::{Moved, Phase, Put, Side};
@@ -30,31 +31,18 @@ pub fn is_protected(size: u16, guard: u8, address: u16) -> bool
     address < protected_below(size, guard)
 }
 
-// What a refused data byte leaves: the bytes as they were, and the address one on, as after any data byte.
-fn refuse(size: u16, address: u16) -> Put
-    requires { address < size }
-    ensures { (m : List ℕ) → PutWith result m (refused_byte size (lent m address)) }
-{
-    let next = next_address(size, address);
-    Put {
-        address: next,
-        acknowledged: false,
-    }
-}
-
 // A whole data byte for the memory: stored, or refused where the address is protected; either way the address steps on.
 fn put(memory: &mut [u8], size: u16, guard: u8, address: u16, byte: u8) -> Put
     requires { (length memory.old ≡ size) × (address < size) }
     ensures { PutWith result memory.new (put_byte size guard (lent memory.old address) byte) }
 {
-    if is_protected(size, guard, address) {
-        return refuse(size, address);
+    let acknowledged = !is_protected(size, guard, address);
+    if acknowledged {
+        memory[address as usize] = byte;
     }
-    let at = address as usize;
-    memory[at] = byte;
     Put {
         address: next_address(size, address),
-        acknowledged: true,
+        acknowledged,
     }
 }
 
@@ -77,11 +65,7 @@ pub fn put_clock(
         clocks: count(clocks),
         byte: whole,
     };
-    let after = Phase::Write {
-        side: Side::Memory,
-        clocks: 0,
-        byte: 0,
-    };
+    let after = awaiting(Side::Memory);
     if clocks == 7 {
         let done = put(memory, size, guard, address, whole);
         let turned = receive(clocks, high, next, done.acknowledged, after);

@@ -1,19 +1,9 @@
 -- SPDX-License-Identifier: Apache-2.0
 -- A slave byte: its bits fit, and a whole one names somebody.
-use mathlib.Core.Bool.{and-true}
-use borrow.Author.Tests.{ne_eqb}
 use Rattle.wire.specs.Limits.{phase_within}
+use Rattle.bus_limits.proofs.Tests.{unless}
 use Rattle.bus_limits.proofs.slave_within.Goals as goal
-
-pub returns-then-clocks-eq8 : goal.returns-then-clocks-eq8
-unfolding phase_within
-returns-then-clocks-eq8 c = λ first last. rw (
-  c.bits_fit-fit.ensures,
-  c.answers.ensures,
-  c.names_for.ensures,
-  c.if-clocks-eq8.true,
-)
 
 pub returns : goal.returns
 unfolding phase_within
-returns c = λ first last. rw (c.bits_fit-fit.ensures, ne_eqb _ _ c.if-clocks-eq8.false, and-true)
+returns c = λ first last. rw (c.bits_fit.ensures, c.answers.ensures, c.names_for.ensures, unless)

@@ -1,19 +1,16 @@
 -- SPDX-License-Identifier: Apache-2.0
--- The loop's invariant: what was seen of the events, and the rest, decide the whole. The measure is what is left.
-use Prim.Native.Nat.{◌-◌}
-use mathlib.Core.Path.{sym, ◌∙◌}
+-- The fold over the events, from a test that has passed.
+use mathlib.Core.Path.{◌∙◌}
+use mathlib.Core.Bool.{true, ◌&&◌}
+use lib.Dec.{leb}
 use borrow.Author.Rules.{rules}
-use Rattle.bus_list.proofs.Runs.{known_more, known_end}
+use Rattle.std.proofs.lemmas.Iterator.{YieldsList-from_slice}
+use Rattle.std.proofs.lemmas.Iterator.Consumers.{fold_from_yields_List}
+use Rattle.bus_list.proofs.Runs.{known_fold}
 use Rattle.bus_list.proofs.all_known.Goals as goal
-
-pub loop-i-preserved : goal.loop-i-preserved
-loop-i-preserved c =
-    let l = c.loop-i in
-    let given = c.args in
-    (search rules, known_more given.last given.events.now l.i l.known (search rules) ∙ l.invariant.1)
 
 pub returns : goal.returns
 returns c =
-    let l = c.loop-i in
-    let given = c.args in
-    sym (known_end given.last given.events.now l.i l.known c.loop-i-test.false) ∙ l.invariant.1
+    let a = c.args in
+    fold_from_yields_List _ (λ k e. k && leb e a.last) true _ c.fold.ensures.ran (YieldsList-from_slice a.events.now (search rules)) (λ k e b q r. search rules)
+    ∙ known_fold a.last true a.events.now

@@ -1,30 +1,41 @@
 -- SPDX-License-Identifier: Apache-2.0
 -- The tests of the bytes, one after the other, are those of the definition.
 use mathlib.Core.Path.{sym, ◌∙◌}
+use mathlib.Core.Bool.{false≢true}
 use native.Mathlib.Omega.{arith}
+use borrow.Author.Tests.{ne_eqb}
 use Rattle.fm3130_image.proofs.Accepts.{image_not_long}
 use Rattle.fm3130_accept.proofs.Tests.{wrong_end, wrong_places, right_so_far}
 use Rattle.fm3130_accept.proofs.is_image.Goals as goal
+use Rattle.fm3130_accept.proofs.is_image.Goals.{then-image-eq-LENGTH, else-image-eq-LENGTH, then-has_end, else-has_end}
 
-pub returns-then-image-ne-LENGTH : goal.returns-then-image-ne-LENGTH
-returns-then-image-ne-LENGTH c = sym (image_not_long _ c.if-image-ne-LENGTH.true)
+pub returns-then-places_within : goal.returns-then-places_within
+returns-then-places_within c =
+    elim c.if-has_end.branch [
+      | then-has_end w ↦ elim c.if-image-eq-LENGTH.branch [
+        | then-image-eq-LENGTH v ↦
+            rw c.transfer_at.ensures at c.bus_within.ensures ∙ right_so_far _ v.if-image-eq-LENGTH.true (λ k. omega (arith, c.type_inv.image k))
+            (sym v.has_end.ensures ∙ sym v.value-is ∙ w.if-has_end.true)
+            (sym w.places_within.ensures ∙ sym w.value-is ∙ c.if-places_within.true)
+        | else-image-eq-LENGTH v ↦ absurd (false≢true (sym (ne_eqb _ _ v.if-image-eq-LENGTH.false) ∙ sym v.value-is ∙ w.if-has_end.true))
+      ]
+      | else-has_end w ↦ absurd (false≢true (sym w.if-has_end.false ∙ sym w.value-is ∙ c.if-places_within.true))
+    ]
 
-pub returns-then-not-has_end : goal.returns-then-not-has_end
-returns-then-not-has_end c =
-    let k = c in
-    wrong_end _ c.if-image-ne-LENGTH.false ((λ k₁. omega (arith, k.shared_slice_known-1.given k₁))) (sym c.has_end.ensures ∙ c.if-not-has_end.true)
-
-pub returns-then-not-places_within : goal.returns-then-not-places_within
-returns-then-not-places_within c =
-    let k = c in
-    wrong_places _ c.if-image-ne-LENGTH.false ((λ k₁. omega (arith, k.shared_slice_known-1.given k₁)))
-    (sym c.has_end.ensures ∙ c.if-not-has_end.false)
-    (sym c.places_within.ensures ∙ c.if-not-places_within.true)
-
-pub returns : goal.returns
-returns c =
-    let t = c in
-    let k = t in
-    c.bus_within.ensures ∙ right_so_far _ t.if-image-ne-LENGTH.false ((λ k₁. omega (arith, k.shared_slice_known-1.given k₁)))
-    (sym t.has_end.ensures ∙ t.if-not-has_end.false)
-    (sym t.places_within.ensures ∙ t.if-not-places_within.false)
+pub returns-else-places_within : goal.returns-else-places_within
+returns-else-places_within c =
+    elim c.if-has_end.branch [
+      | then-has_end w ↦ elim c.if-image-eq-LENGTH.branch [
+        | then-image-eq-LENGTH v ↦
+            c.if-places_within.false ∙ wrong_places _ v.if-image-eq-LENGTH.true (λ k. omega (arith, c.type_inv.image k))
+            (sym v.has_end.ensures ∙ sym v.value-is ∙ w.if-has_end.true)
+            (sym w.places_within.ensures ∙ sym w.value-is ∙ c.if-places_within.false)
+        | else-image-eq-LENGTH v ↦ absurd (false≢true (sym (ne_eqb _ _ v.if-image-eq-LENGTH.false) ∙ sym v.value-is ∙ w.if-has_end.true))
+      ]
+      | else-has_end w ↦ elim c.if-image-eq-LENGTH.branch [
+        | then-image-eq-LENGTH v ↦
+            c.if-places_within.false ∙ wrong_end _ v.if-image-eq-LENGTH.true (λ k. omega (arith, c.type_inv.image k))
+            (sym v.has_end.ensures ∙ sym v.value-is ∙ w.if-has_end.false)
+        | else-image-eq-LENGTH v ↦ c.if-places_within.false ∙ sym (image_not_long _ v.if-image-eq-LENGTH.false)
+      ]
+    ]

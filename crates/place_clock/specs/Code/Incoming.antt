@@ -11,7 +11,7 @@ use Rattle.wire.specs.Kinds as Kinds
 use Rattle.wire.specs.Memory.{Cells, lent, pointed, put_byte}
 use Rattle.wire.specs.Slave.{slave_names, answers, opened}
 use Rattle.fm3130_companion.specs.Part.{aim_of, store_of, guard_of}
-use Rattle.fm3130_companion.specs.declared.Taken.{Taken}
+use Rattle.fm3130_companion.specs.Part.{Taken}
 use Rattle.fm3130.specs.Code.Bus.{with_companion}
 use Rattle.fm3130.specs.Chip.{memory_size}
 use Rattle.fm3130.specs.declared.State.{State}

@@ -13,7 +13,7 @@ use Rattle.fm3130_companion.specs.Change.{with_time, with_registers}
 use Rattle.fm3130_registers.specs.Control.{control_after, w_falls}
 use Rattle.fm3130_companion.specs.Write.{control_written}
 use Rattle.fm3130_companion.specs.declared.Companion.{Companion}
-use Rattle.fm3130_companion.specs.declared.Taken.{Taken}
+use Rattle.fm3130_companion.specs.Part.{Taken}
 
 abbrev pub with_core : Companion → Calendar → Companion
 with_core c core = record { registers = c.registers; core = core; address = c.address }

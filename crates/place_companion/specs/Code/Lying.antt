@@ -4,7 +4,7 @@
 --   Becomes   an image in which a state lies becomes one in which another lies
 --   Took      what taking a byte leaves of the image
 use Rattle.std.specs.Prelude.{ℕ, ◌≡◌, Bool, List}
-use Rattle.fm3130_companion.specs.declared.Taken.{Taken}
+use Rattle.fm3130_companion.specs.Part.{Taken}
 use Rattle.fm3130.specs.Code.Bus.{with_companion}
 use Rattle.fm3130.specs.declared.State.{State}
 use Rattle.fm3130_image.specs.Image.{image_of}

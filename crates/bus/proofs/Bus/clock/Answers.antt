@@ -1,6 +1,7 @@
 -- SPDX-License-Identifier: Apache-2.0
 -- A Clock is heard while main power is present.
 use mathlib.Core.Path.{refl}
+use mathlib.Core.Logic.{inl, inr}
 use Rattle.wire.specs.Machine.{lined, clock}
 use Rattle.bus.specs.Happening.{on_wire}
 use Rattle.bus.specs.Event.{event_on}
@@ -14,12 +15,11 @@ returns-in-On c = rw c.in-On.is (rw c.in-On.is at c.clock_on.ensures)
 
 pub returns-in-Backup : goal.returns-in-Backup
 unfolding event_on
-returns-in-Backup c = let a = c.args in at_power a.size (slave_names_for a.select) a.guard
-    a.reply a.self
-    a.memory.now (on_wire (clock a.high)) c.in-Backup.is refl
-
-pub returns-in-Off : goal.returns-in-Off
-unfolding event_on
-returns-in-Off c = let a = c.args in at_power a.size (slave_names_for a.select) a.guard
-    a.reply a.self
-    a.memory.now (on_wire (clock a.high)) c.in-Off.is refl
+returns-in-Backup c =
+    let a = c.args in
+    let n = slave_names_for a.part.select in
+    let x = on_wire (clock a.high) in
+    elim c.in-Backup.is [
+      | inl p ↦ at_power a.part.size n a.part.guard a.part.reply a.self a.memory.now x p refl
+      | inr p ↦ at_power a.part.size n a.part.guard a.part.reply a.self a.memory.now x p refl
+    ]

@@ -8,49 +8,49 @@ use Rattle.bus.proofs.Cases.{both, at_phase, idle_clock}
 use Rattle.bus.proofs.Bus.clock_on.Goals as goal
 
 pub returns-in-Idle : goal.returns-in-Idle
-returns-in-Idle c = let a = c.args in idle_clock a.size (slave_names_for a.select) a.guard
-    a.reply a.self
+returns-in-Idle c = let a = c.args in idle_clock a.part.size (slave_names_for a.part.select) a.part.guard
+    a.part.reply a.self
     a.memory.now a.high c.in-Idle.is
 
 pub returns-in-Slave : goal.returns-in-Slave
 unfolding clocked
-returns-in-Slave c = let a = c.args in at_phase a.size
-    (slave_names_for a.select)
-    a.guard a.reply a.self a.memory.now a.high c.in-Slave.is (rw (
+returns-in-Slave c = let a = c.args in at_phase a.part.size
+    (slave_names_for a.part.select)
+    a.part.guard a.part.reply a.self a.memory.now a.high c.in-Slave.is (rw (
       c.turned.ensures,
       c.select_clock.ensures,
     ))
 
 pub returns-in-AddressHigh : goal.returns-in-AddressHigh
 unfolding clocked
-returns-in-AddressHigh c = let a = c.args in at_phase a.size
-    (slave_names_for a.select)
-    a.guard a.reply a.self a.memory.now a.high c.in-AddressHigh.is (rw
+returns-in-AddressHigh c = let a = c.args in at_phase a.part.size
+    (slave_names_for a.part.select)
+    a.part.guard a.part.reply a.self a.memory.now a.high c.in-AddressHigh.is (rw
     (c.turned-in-AddressHigh.ensures, c.high_clock.ensures))
 
 pub returns-in-AddressLow : goal.returns-in-AddressLow
 unfolding clocked
-returns-in-AddressLow c = let a = c.args in at_phase a.size
-    (slave_names_for a.select)
-    a.guard a.reply a.self a.memory.now a.high c.in-AddressLow.is (rw (
+returns-in-AddressLow c = let a = c.args in at_phase a.part.size
+    (slave_names_for a.part.select)
+    a.part.guard a.part.reply a.self a.memory.now a.high c.in-AddressLow.is (rw (
       c.moved.ensures,
       c.low_clock.ensures a.memory.now,
     ) (both refl (sym (low_bytes _ _ _ _ _ _))))
 
 pub returns-in-Pointer : goal.returns-in-Pointer
 unfolding clocked
-returns-in-Pointer c = let a = c.args in at_phase a.size
-    (slave_names_for a.select)
-    a.guard a.reply a.self a.memory.now a.high c.in-Pointer.is (rw
+returns-in-Pointer c = let a = c.args in at_phase a.part.size
+    (slave_names_for a.part.select)
+    a.part.guard a.part.reply a.self a.memory.now a.high c.in-Pointer.is (rw
     (c.turned-in-Pointer.ensures, c.pointer_turn.ensures))
 
 pub returns-in-Write : goal.returns-in-Write
-returns-in-Write c = let a = c.args in at_phase a.size
-    (slave_names_for a.select) a.guard a.reply a.self a.memory.now a.high
+returns-in-Write c = let a = c.args in at_phase a.part.size
+    (slave_names_for a.part.select) a.part.guard a.part.reply a.self a.memory.now a.high
     c.in-Write.is c.write_clock.ensures
 
 pub returns-in-Read : goal.returns-in-Read
-returns-in-Read c = let a = c.args in at_phase a.size
-    (slave_names_for a.select)
-    a.guard a.reply a.self a.memory.now a.high c.in-Read.is
+returns-in-Read c = let a = c.args in at_phase a.part.size
+    (slave_names_for a.part.select)
+    a.part.guard a.part.reply a.self a.memory.now a.high c.in-Read.is
     c.read_clock.ensures

@@ -9,5 +9,5 @@ use Rattle.bus.proofs.turns.store_turn.Goals as goal
 pub returns : goal.returns
 returns c =
     let a = c.args in
-    rw (c.receive.ensures a.byte, c.push.ensures, c.count.ensures)
+    rw (c.take.ensures a.byte, c.push.ensures, c.count.ensures)
     (received_seen (companion_byte (λ u b. replied a.reply)) tt a.clocks a.byte a.high _ (λ e. refl))

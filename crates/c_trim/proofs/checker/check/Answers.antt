@@ -28,8 +28,8 @@ returns-then-is_nearest c =
     c.if-setting-gt-LAST_CODE.false
     ((nearest_read s.args.setting s.ranges.error).0 (c.is_nearest.ensures.0 c.if-is_nearest.true))
 
-pub returns : goal.returns
-returns c =
+pub returns-else-is_nearest : goal.returns-else-is_nearest
+returns-else-is_nearest c =
     let r = c in
     let s = r in
     let m = nearest_read s.args.setting s.ranges.error in

@@ -7,18 +7,18 @@ use Rattle.c_trim.proofs.Signed.{read_back}
 use Rattle.c_trim.proofs.Proposals.{proposed_coded}
 use Rattle.c_trim.proofs.entries.fm3130_trim_propose.Goals as goal
 
-pub setting_number-requires : goal.setting_number-requires
-setting_number-requires c =
-    proposed_coded _ _ (sym c.propose.ensures ∙ c.in-Proposed.is)
+pub number-requires : goal.number-requires
+number-requires c =
+    proposed_coded _ _ (sym c.propose.ensures ∙ c.in-Some.is)
 
-pub returns-in-Proposed : goal.returns-in-Proposed
-returns-in-Proposed c =
+pub returns-in-Some : goal.returns-in-Some
+returns-in-Some c =
     let r = c in
     let q = ap proposal_of (sym (read_back r.ranges.error)) ∙ sym r.propose.ensures in
-    c.setting_number.ensures ∙ sym (ap proposal_number (q ∙ c.in-Proposed.is))
+    c.number.ensures ∙ sym (ap proposal_number (q ∙ c.in-Some.is))
 
-pub returns-in-Refused : goal.returns-in-Refused
-returns-in-Refused c =
+pub returns-in-None : goal.returns-in-None
+returns-in-None c =
     let r = c in
     let q = ap proposal_of (sym (read_back r.ranges.error)) ∙ sym r.propose.ensures in
-    sym (ap proposal_number (q ∙ c.in-Refused.is))
+    sym (ap proposal_number (q ∙ c.in-None.is))

@@ -5,14 +5,14 @@ use Rattle.c_trim.specs.Entries.{named_residue}
 use Rattle.c_trim.proofs.Numbers.{residue_named}
 use Rattle.c_trim.proofs.entries.fm3130_trim_residue.Goals as goal
 
-pub returns-in-Known : goal.returns-in-Known
-returns-in-Known c =
+pub returns-in-Ok : goal.returns-in-Ok
+returns-in-Ok c =
     let m = c in
     let r = m in
     residue_named _ c.residue_shown.result r.ranges.error
-    (sym r.setting_of.ensures ∙ m.in-Known.is) c.residue_shown.ensures
+    (sym r.setting_of.ensures ∙ m.in-Ok.is) c.residue_shown.ensures
 
-pub returns-in-UnknownSign : goal.returns-in-UnknownSign
-returns-in-UnknownSign c =
+pub returns-in-Err : goal.returns-in-Err
+returns-in-Err c =
     let r = c in
-    sym (ap (named_residue r.args.error) (sym r.setting_of.ensures ∙ c.in-UnknownSign.is))
+    sym (ap (named_residue r.args.error) (sym r.setting_of.ensures ∙ c.in-Err.is))

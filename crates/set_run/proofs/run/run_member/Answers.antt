@@ -7,8 +7,8 @@ use Rattle.set_event.proofs.Ears.{fit_length, fit_well}
 use Rattle.set_run.proofs.Members.{member_here, member_absent}
 use Rattle.set_run.proofs.run.run_member.Goals as goal
 
-pub run_at-last-requires : goal.run_at-last-requires
-run_at-last-requires c =
+pub run_at-state-requires : goal.run_at-state-requires
+run_at-state-requires c =
     let z = c in
     let i = z in
     let s = i in
@@ -30,7 +30,7 @@ returns-then-place-count c =
     let i = z in
     let a = i.args in
     member_here a.count a.place (held a.member a.memory.now) a.events.now a.answers.now _ _ _ _
-    (lt-ltb a.place a.count i.if-place-count.true) z.size_of.ensures r.run_at-last.ensures
+    (lt-ltb a.place a.count i.if-place-count.true) z.size_of.ensures r.run_at-state.ensures
 
 pub returns : goal.returns
 returns c =

@@ -18,6 +18,7 @@ returns-then-clocks-eq7 c m =
       c.with_address.ensures,
       c.join.ensures,
       n.receive-turned.ensures a.byte,
+      n.awaiting.ensures,
       n.count.ensures,
       n.push-low.ensures,
     )
@@ -34,6 +35,7 @@ returns c m =
     rw (
       c.with_address-2.ensures,
       n.receive-turned.ensures a.byte,
+      n.awaiting.ensures,
       n.count.ensures,
       n.push-low.ensures,
     )

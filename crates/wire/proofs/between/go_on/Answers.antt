@@ -1,12 +1,15 @@
 -- SPDX-License-Identifier: Apache-2.0
--- A high ninth bit ends the transfer.
-use Rattle.wire.specs.Clock.{more}
+-- A high ninth bit ends the transfer, as a byte that is not acknowledged does.
+use mathlib.Core.Path.{◌≡◌, refl}
+use mathlib.Core.Bool.{Bool, true, false, not}
+use Rattle.wire.specs.Clock.{kept, more}
+use Rattle.wire.specs.declared.Phase.{Phase}
 use Rattle.wire.proofs.between.go_on.Goals as goal
 
-pub returns-then-high : goal.returns-then-high
-unfolding more
-returns-then-high c = rw c.if-high.true
+kept_more : (d : Bool) (p : Phase) → kept (not d) p ≡ more d p
+unfolding kept more
+kept_more true p = refl
+kept_more false p = refl
 
 pub returns : goal.returns
-unfolding more
-returns c = rw c.if-high.false
+returns c = rw c.keep.ensures (kept_more c.args.high c.args.phase)

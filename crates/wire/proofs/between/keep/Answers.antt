@@ -7,6 +7,6 @@ pub returns-then-acknowledged : goal.returns-then-acknowledged
 unfolding kept
 returns-then-acknowledged c = rw c.if-acknowledged.true
 
-pub returns : goal.returns
+pub returns-else-acknowledged : goal.returns-else-acknowledged
 unfolding kept
-returns c = rw c.if-acknowledged.false
+returns-else-acknowledged c = rw c.if-acknowledged.false

@@ -1,12 +1,17 @@
 -- SPDX-License-Identifier: Apache-2.0
 -- `push` gives the pushed byte, by the bit.
+use mathlib.Core.Path.{◌≡◌, refl}
+use mathlib.Core.Bool.{Bool, true, false}
+use Prim.Native.Nat.{ℕ, ◌+◌, ◌*◌, ◌%◌}
+use native.Mathlib.Omega.{arith}
+use Rattle.std.specs.Int.{from_bool}
 use Rattle.wire.specs.Bits.{pushed}
 use Rattle.wire.proofs.bits.push.Goals as goal
 
-pub returns-then-high : goal.returns-then-high
+by_bit : (b : ℕ) (d : Bool) → b % 128 * 2 + from_bool d ≡ pushed b d
 unfolding pushed
-returns-then-high c = rw c.if-high.true
+by_bit b true = refl
+by_bit b false = omega arith
 
-pub returns-else-high : goal.returns-else-high
-unfolding pushed
-returns-else-high c = rw c.if-high.false
+pub returns : goal.returns
+returns c = rw c.from.ensures (by_bit c.args.byte c.args.high)

@@ -1,20 +1,21 @@
 -- SPDX-License-Identifier: Apache-2.0
 -- The phase that a slave byte opens, by whom it names.
+use Rattle.std.proofs.Common.{rules}
 use Rattle.wire.specs.Slave.{opened}
 use Rattle.wire.proofs.slave.opened.Goals as goal
 
 pub returns-in-Nobody : goal.returns-in-Nobody
 unfolding opened
-returns-in-Nobody c = rw c.in-Nobody.is
+returns-in-Nobody c = search rules
 
 pub returns-in-Reads : goal.returns-in-Reads
 unfolding opened
-returns-in-Reads c = rw c.in-Reads.is
+returns-in-Reads c = search rules
 
-pub returns-in-Memory : goal.returns-in-Memory
+pub returns-in-Writes-Memory : goal.returns-in-Writes-Memory
 unfolding opened
-returns-in-Memory c = rw (c.in-Writes.is, c.in-Memory.is)
+returns-in-Writes-Memory c = search rules
 
-pub returns-in-Companion : goal.returns-in-Companion
+pub returns-in-Writes-Companion : goal.returns-in-Writes-Companion
 unfolding opened
-returns-in-Companion c = rw (c.in-Writes.is, c.in-Companion.is)
+returns-in-Writes-Companion c = search rules

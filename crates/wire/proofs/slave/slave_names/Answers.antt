@@ -1,6 +1,7 @@
 -- SPDX-License-Identifier: Apache-2.0
 -- `slave_names` knows the four slave bytes.
-use borrow.Author.Tests.{ne_eqb}
+use native.Mathlib.Omega.{arith}
+use Rattle.std.proofs.lemmas.Grind.{common_steps}
 use Rattle.wire.specs.Slave.{slave_names}
 use Rattle.wire.proofs.slave.slave_names.Goals as goal
 
@@ -22,4 +23,4 @@ returns-in-209 c = rw c.in-209.is
 
 pub returns-in_default : goal.returns-in_default
 unfolding slave_names
-returns-in_default c = rw (ne_eqb _ _ c.in_default.in_default-own.rest.1, ne_eqb _ _ c.in_default.in_default-own.rest.0.1, ne_eqb _ _ c.in_default.in_default-own.rest.0.0.1, ne_eqb _ _ c.in_default.in_default-own.rest.0.0.0.1)
+returns-in_default c = grind (arith, common_steps)

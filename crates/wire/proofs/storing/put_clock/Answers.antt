@@ -19,6 +19,7 @@ returns-then-clocks-eq7 c =
     rw (
       c.with_address.ensures,
       c.receive-turned.ensures a.byte,
+      f.awaiting-after.ensures,
       n.put-done.ensures.result,
       f.count.ensures,
       f.push-whole.ensures,
@@ -40,6 +41,7 @@ returns c =
     rw (
       c.with_address-2.ensures,
       c.receive-turned-2.ensures a.byte,
+      f.awaiting-after.ensures,
       f.count.ensures,
       f.push-whole.ensures,
     )
