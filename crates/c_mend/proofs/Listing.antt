@@ -1,22 +1,23 @@
 -- SPDX-License-Identifier: Apache-2.0
 -- The list of what was changed: three bytes written at a place; one register more, and the end, of list and count; that the
 -- list has three bytes for each register counted; and that equal bytes are no change.
-use Prim.Native.Nat.{ℕ, suc, ◌+◌, ◌*◌, ◌≤◌, ◌<◌}
+use Prim.Native.Nat.{ℕ, suc, ◌+◌, ◌-◌, ◌*◌, ◌≤◌, ◌<◌}
 use mathlib.Core.Path.{◌≡◌, refl, sym, ap, ◌∙◌}
 use mathlib.Core.List.{List, [], ◌∷◌, ◌++◌, append_assoc, append-nil}
 use native.Mathlib.Omega.{arith}
 use native.Mathlib.Numerals.{add-one}
 use lib.Dec.{eqb}
-use lib.ListN.{length, take, drop, get_or, set, length-set, length-append, drop_of_length-le}
-use lib.Seq.{take-suc-set, drop-set-lt, drop-cons, drop-drop}
+use borrow.Rule.Slice.PartMut.{put_mid, same_len_mid, mid_len}
+use lib.ListN.{length, take, drop, get_or, length-append, drop_of_length-le}
+use lib.Seq.{drop-cons, drop-drop}
+use Rattle.std.proofs.lemmas.Slice.{take-put_mid, drop-put_mid}
+use Rattle.std.proofs.lemmas.List.Sums.{sum_by-cons}
+use Rattle.std.specs.Prelude.{zip, count_by, cond, not}
 use borrow.Author.Tests.{eq-eqb, ne_eqb}
 use Rattle.wire.proofs.Tests.{by_test}
 use Rattle.c_mend.specs.Changes.{change_of, changes_from, changed, changed_count}
 use Rattle.c_mend.specs.Code.Changes.{WrittenAt}
 use Rattle.c_mend.specs.Laws.{ThreeBytesEach}
-
-abbrev three : List ℕ → ℕ → ℕ → ℕ → ℕ → List ℕ
-three ch at n a b = set (set (set ch at n) (at + 1) a) (at + 2) b
 
 module _ (ch : List ℕ) (at n a b : ℕ) where
   pub note_same : a ≡ b → WrittenAt (change_of n a b) at ch at ch
@@ -29,38 +30,19 @@ module _ (ch : List ℕ) (at n a b : ℕ) where
   unfolding change_of
   note_room e = rw (ne_eqb a b e)
 
-  take_three : at + 3 ≤ length ch → take (at + 3) (three ch at n a b) ≡ take at ch ++ (n ∷ a ∷ b ∷ [])
-  take_three h =
-      let p : at + 3 ≡ suc (at + 2) = omega arith in
-      let q : at + 2 ≡ suc (at + 1) = omega arith in
-      let r : at + 1 ≡ suc at = omega arith in
-      let one = length-set ch at n in
-      let two = length-set (set ch at n) (at + 1) a in
-      ap (λ (k : ℕ). take k (three ch at n a b)) p
-      ∙ take-suc-set (set (set ch at n) (at + 1) a) (at + 2) b (omega arith)
-      ∙ ap (λ (l : List ℕ). l ++ (b ∷ []))
-      (ap (λ (k : ℕ). take k (set (set ch at n) (at + 1) a)) q
-      ∙ take-suc-set (set ch at n) (at + 1) a (omega arith)
-      ∙ ap (λ (l : List ℕ). l ++ (a ∷ []))
-      (ap (λ (k : ℕ). take k (set ch at n)) r ∙ take-suc-set ch at n (omega arith)))
-      ∙ simp append_assoc
-
   pub note_other : (a ≡ b → ⊥) → at + length (change_of n a b) ≤ length ch
-      → WrittenAt (change_of n a b) at ch (at + 3) (three ch at n a b)
+      → (l : List ℕ) → l ≡ n ∷ a ∷ b ∷ [] → WrittenAt (change_of n a b) at ch (at + 3) (put_mid at (at + 3 - at) ch l)
   unfolding change_of
-  note_other e h =
-      let w = note_room e in
-      let g : at + 3 ≤ length ch = omega arith in
+  note_other e h l w =
+      let room = note_room e in
+      let three : length l ≡ 3 = ap length w in
+      let k : at + 3 - at ≡ 3 = omega arith in
       rw (ne_eqb a b e)
       (record {
         place = refl;
-        front = take_three g;
-        rest =
-            drop-set-lt (at + 3) (set (set ch at n) (at + 1) a) (at + 2) b (omega arith)
-            ∙ drop-set-lt (at + 3) (set ch at n) (at + 1) a (omega arith)
-            ∙ drop-set-lt (at + 3) ch at n (omega arith);
-        same =
-            length-set (set (set ch at n) (at + 1) a) (at + 2) b ∙ length-set (set ch at n) (at + 1) a ∙ length-set ch at n;
+        front = take-put_mid at (at + 3 - at) ch l (at + 3) (omega arith) (omega arith) ∙ ap (λ (t : List ℕ). take at ch ++ t) w;
+        rest = drop-put_mid at (at + 3 - at) ch l (at + 3) (omega arith) (omega arith) (omega arith);
+        same = same_len_mid at (at + 3 - at) ch l (three ∙ sym k ∙ sym (mid_len at (at + 3) ch (omega arith)));
       })
 
 -- one register more, and the end
@@ -77,24 +59,18 @@ module _ (xs ys : List ℕ) (i : ℕ) where
   unfolding changes_from
   changes_end h = rw (drop_of_length-le xs h)
 
-  count_more : i < length xs → i < length ys
-      → changed_count (drop i xs) (drop i ys)
-      ≡ changed (get_or xs i 0) (get_or ys i 0) + changed_count (drop (i + 1) xs) (drop (i + 1) ys)
-  unfolding changed_count
-  count_more h g = rw (add-one i, drop-cons xs i 0, drop-cons ys i 0)
-
-  -- the count with what was counted before
-  pub count_step : (count total r : ℕ) → i < length xs → i < length ys
-      → count + changed_count (drop i xs) (drop i ys) ≡ total → r ≡ changed (get_or xs i 0) (get_or ys i 0)
-      → count + r + changed_count (drop (i + 1) xs) (drop (i + 1) ys) ≡ total
-  count_step count total r h g e f = let more = count_more h g in omega arith
-
-  pub count_end : length xs ≤ i → changed_count (drop i xs) (drop i ys) ≡ 0
-  unfolding changed_count
-  count_end h = rw (drop_of_length-le xs h)
-
 pub changed_le : (a b : ℕ) → changed a b ≤ 1
 changed_le a b = by_test (eqb a b) (λ e. rw e (omega arith)) (λ e. rw e (omega arith))
+
+-- as the pairs that differ are counted
+pub counted : (xs ys : List ℕ) → count_by (λ (p : ℕ × ℕ). not (eqb p.0 p.1)) (zip xs ys) ≡ changed_count xs ys
+unfolding changed_count
+counted [] ys = refl
+counted (a ∷ xs) [] = refl
+counted (a ∷ xs) (b ∷ ys) =
+    sum_by-cons _ (a, b) (zip xs ys)
+    ∙ ap (λ (k : ℕ). cond (not (eqb a b)) 1 0 + k) (counted xs ys)
+    ∙ by_test (eqb a b) (λ e. rw e refl) (λ e. rw e refl)
 
 -- at most all registers
 pub count_le : (xs ys : List ℕ) → changed_count xs ys ≤ length xs

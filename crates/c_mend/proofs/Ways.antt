@@ -1,14 +1,14 @@
 -- SPDX-License-Identifier: Apache-2.0
 -- The ways through the entry's tests, one by one and as the two that there are: refused, or written for a state; and that no
 -- second outcome satisfies the contract.
-use Prim.Native.Nat.{ℕ, ◌≤◌, ◌<◌}
-use mathlib.Core.Path.{◌≡◌, refl, sym, ◌∙◌}
+use Prim.Native.Nat.{ℕ, ◌*◌, ◌≤◌, ◌<◌}
+use mathlib.Core.Path.{◌≡◌, refl, sym, ap, ◌∙◌}
 use mathlib.Core.List.{List, ◌++◌}
 use native.Mathlib.Omega.{arith}
-use lib.Dec.{leb, lit≤}
+use lib.Dec.{eqb, leb, lit≤}
 use lib.ListN.{length, drop, take-append-drop}
 use borrow.Author.Tests.{le-leb, lt-leb, leb-true, leb-false}
-use Rattle.std.specs.Prelude.{Option, Some, None}
+use Rattle.std.specs.Prelude.{Option, Some, None, count_by, not, zip}
 use Rattle.wire.proofs.Tests.{by_test}
 use Rattle.numbers.specs.Numbers.{accepted, wrong_state, short_answers}
 use Rattle.fm3130.specs.declared.State.{State}
@@ -19,6 +19,7 @@ use Rattle.c_mend.specs.Changes.{changes_from, changed_count}
 use Rattle.c_mend.specs.Code.Changes.{WrittenAt}
 use Rattle.c_mend.specs.Mend.{mended_state, time_bytes, changes_in, refused, written, mend_of, outcome_with, MendSettled}
 use Rattle.c_mend.specs.declared.Mended.{Mended}
+use Rattle.c_mend.proofs.Listing.{counted, count_le, three_bytes_each}
 
 module _ (i ch : List ℕ) where
   pub mend_wrong_image : decode_of i ≡ None → mend_of i ch ≡ refused wrong_state i ch
@@ -47,8 +48,16 @@ module _ (i ch : List ℕ) where
 
 -- what was counted and listed, as the calls return it
 module _ (s m : State) (b a : List ℕ) (e : m ≡ mended_state s) (f : b ≡ time_bytes s) (g : a ≡ time_bytes m) where
-  pub counted_by_lem : {n : ℕ} → n ≡ changed_count b a → n ≡ changed_count (time_bytes s) (time_bytes (mended_state s))
-  counted_by_lem h = h ∙ rw (f, g, e) refl
+  module _ {n : ℕ} (h : n ≡ count_by (λ (p : ℕ × ℕ). not (eqb p.0 p.1)) (zip b a)) where
+    pub counted_by_lem : n ≡ changed_count (time_bytes s) (time_bytes (mended_state s))
+    counted_by_lem = h ∙ counted b a ∙ rw (f, g, e) refl
+
+    pub counted_few : n ≤ 7
+    counted_few = rw counted_by_lem (count_le (time_bytes s) (time_bytes (mended_state s)))
+
+    pub counted_length : length (changes_in s) ≡ 3 * n
+    counted_length =
+        three_bytes_each 2 (time_bytes s) (time_bytes (mended_state s)) ∙ ap (λ (k : ℕ). 3 * k) (sym counted_by_lem)
 
   pub listed_by : {ch ch' : List ℕ} {r : ℕ} → WrittenAt (changes_from 2 b a) 0 ch r ch' → WrittenAt (changes_in s) 0 ch r ch'
   listed_by w = rw (f, g, e) at w

@@ -7,11 +7,13 @@
 --   Outcome, refused, written   all that a caller can see; a refusal; an image put right
 --   on_decoded, mend_of           the tests in the order of the numbers
 --   MendSettled                 the entry's contract
-use Rattle.std.specs.Prelude.{ℕ, ◌≡◌, cond, List, ◌++◌, leb, length, drop, Option, Some, None}
+use Rattle.std.specs.Prelude.{ℕ, ◌≡◌, cond, List, ◌++◌, leb, length, drop, Option, Some, None, Result, Ok, Err}
 use Rattle.calendar.specs.Mend.{mended_of}
 use Rattle.fm3130_companion.specs.Change.{with_time}
 use Rattle.fm3130_companion.specs.declared.Companion.{Companion}
 use Rattle.numbers.specs.Numbers.{accepted, short_answers}
+use Rattle.numbers.specs.Refusal.{number_of}
+use Rattle.numbers.specs.declared.Refusal.{Refusal}
 use Rattle.fm3130.specs.declared.State.{State}
 use Rattle.fm3130_image.specs.Image.{calendar_bytes, image_of, decode_of}
 use Rattle.fm3130_image.specs.Reading.{decoded_says}
@@ -69,6 +71,11 @@ on_decoded n (Some s) i ch = cond (leb (length (changes_in s)) (length ch)) (wri
 -- "Refuses an image by number 2 .. and else": image and lent bytes to the whole outcome.
 unfoldable pub mend_of : List ℕ → List ℕ → Outcome
 mend_of i ch = let read = decoded_says (decode_of i) in on_decoded read.number read.returned i ch
+
+-- What a host program is told: under 0 how many registers were changed, or the refusal's number and a count of 0.
+abbrev pub mended_told : Result ℕ Refusal → Mended
+mended_told (Ok n) = record { number = accepted; count = n }
+mended_told (Err r) = record { number = number_of r; count = 0 }
 
 -- Auxiliary: what a call returned and left, as an outcome.
 abbrev pub outcome_with : Mended → List ℕ → List ℕ → Outcome

@@ -7,21 +7,23 @@
 #![tactic(auto)]
 
 ghost use Rattle.std.specs.Prelude.{◌≡◌};
-ghost use Rattle.c_mend.specs.Mend.{mended_companion, mended_state, time_bytes, MendSettled};
+ghost use Rattle.c_mend.specs.Mend.{mended_companion, mended_state, time_bytes, mended_told, MendSettled};
 
 mod changes;
 
 use crate::changes::{count_changes, write_changes};
+use calendar::Calendar;
 use fm3130::State;
 use fm3130_accept::decode;
 use fm3130_companion::{Companion, Registers};
 use fm3130_image::write::write_image;
-use numbers::{ACCEPTED, SHORT_ANSWERS, WRONG_STATE};
+use numbers::{ACCEPTED, Refusal};
 
 // The bytes that are listed of a register: its number, the old byte, the new byte.
 pub const LISTED: usize = 3;
 
 // What the entry returns: the number of 01's table, and how many registers were changed.
+// Stays (C): fm3130_mend hands a host these two words; inside it is a Result, below.
 #[repr(C)]
 #[derive(Clone, Copy)]
 pub struct Mended {
@@ -29,25 +31,36 @@ pub struct Mended {
     pub count: u64,
 }
 
+// As a host program is told it, of the count or the refusal.
+impl From<Result<u64, Refusal>> for Mended {
+    ghost from_gives = { λ outcome mended. mended ≡ mended_told outcome };
+
+    fn from(outcome: Result<u64, Refusal>) -> Mended {
+        match outcome {
+            Ok(count) => Mended {
+                number: u64::from(ACCEPTED),
+                count,
+            },
+            Err(refusal) => Mended {
+                number: u64::from(refusal),
+                count: 0,
+            },
+        }
+    }
+}
+
 // The companion with its calendar registers and its core put right, each by itself.
 fn mended_companion(companion: Companion) -> Companion
     ensures { result ≡ mended_companion companion }
 {
     let registers = companion.registers;
-    let time = registers.time;
-    let alarm = registers.alarm;
-    let core = companion.core;
-    let mended = Registers {
-        control: registers.control,
-        trim: registers.trim,
-        time: time.mended(),
-        alarm: alarm,
-        setup: registers.setup,
-    };
     Companion {
-        registers: mended,
-        core: core.mended(),
-        address: companion.address,
+        registers: Registers {
+            time: registers.time.mended(),
+            ..registers
+        },
+        core: companion.core.mended(),
+        ..companion
     }
 }
 
@@ -55,14 +68,9 @@ fn mended_companion(companion: Companion) -> Companion
 fn mended_state(state: State) -> State
     ensures { result ≡ mended_state state }
 {
-    let power = state.power;
-    let phase = state.phase;
-    let companion = state.companion;
     State {
-        power: power,
-        phase: phase,
-        address: state.address,
-        companion: mended_companion(companion),
+        companion: mended_companion(state.companion),
+        ..state
     }
 }
 
@@ -70,28 +78,34 @@ fn mended_state(state: State) -> State
 fn time_bytes(state: State) -> [u8; 7]
     ensures { result ≡ time_bytes state }
 {
-    let companion = state.companion;
-    let registers = companion.registers;
-    let time = registers.time;
-    [
-        time.seconds,
-        time.minutes,
-        time.hours,
-        time.day,
-        time.date,
-        time.month,
-        time.year,
-    ]
+    let Calendar {
+        seconds,
+        minutes,
+        hours,
+        day,
+        date,
+        month,
+        year,
+    } = state.companion.registers.time;
+    [seconds, minutes, hours, day, date, month, year]
 }
 
-// What a refused call returns.
-fn refuse(number: u8) -> Mended
-    ensures { result ≡ record { number = number; count = 0 } }
+// The tests in the order of their numbers, with nothing written before the last; and how many registers were changed.
+fn mend(image: &mut [u8], changes: &mut [u8]) -> Result<u64, Refusal>
+    ensures { MendSettled image.old changes.old (mended_told result)
+        image.new changes.new }
 {
-    Mended {
-        number: number as u64,
-        count: 0,
+    let state = decode(image).ok_or(Refusal::WrongState)?;
+    let mended = mended_state(state);
+    let before = time_bytes(state);
+    let after = time_bytes(mended);
+    let count = count_changes(&before, &after);
+    if changes.len() < LISTED * count {
+        return Err(Refusal::ShortAnswers);
     }
+    write_changes(&before, &after, changes);
+    write_image(mended, image);
+    Ok(count as u64)
 }
 
 // Puts an image right: refused by the first number that fits, with nothing written; or the image written, and the list at
@@ -101,20 +115,5 @@ pub extern "C" fn fm3130_mend(image: &mut [u8], changes: &mut [u8]) -> Mended
     ensures { MendSettled image.old changes.old result
         image.new changes.new }
 {
-    let Some(state) = decode(image) else {
-        return refuse(WRONG_STATE);
-    };
-    let mended = mended_state(state);
-    let before = time_bytes(state);
-    let after = time_bytes(mended);
-    let count = count_changes(&before, &after);
-    if changes.len() < LISTED * count {
-        return refuse(SHORT_ANSWERS);
-    }
-    write_changes(&before, &after, changes);
-    write_image(mended, image);
-    Mended {
-        number: ACCEPTED as u64,
-        count: count as u64,
-    }
+    Mended::from(mend(image, changes))
 }

@@ -1,7 +1,7 @@
 -- SPDX-License-Identifier: Apache-2.0
 -- `c_mend::changes::write_changes` meets its contract. The loop's invariant: what was written and what is still to come are
 -- the whole list. The measure is what is left.
-use Prim.Native.Nat.{◌-◌, ◌+◌}
+use Prim.Native.Nat.{◌+◌}
 use mathlib.Core.Path.{refl}
 use native.Mathlib.Omega.{arith}
 use lib.ListN.{drop, get_or}
@@ -21,7 +21,7 @@ note-at-requires c =
     let ys = s.args.after.now in
     going_room l.invariant.1 (change_of (l.i + 2) (get_or xs l.i 0) (get_or ys l.i 0))
     (changes_from (l.i + 1 + 2) (drop (l.i + 1) xs) (drop (l.i + 1) ys))
-    (changes_more xs ys l.i (omega arith) (omega arith)) s.requires.after_in_bounds
+    (changes_more xs ys l.i (omega arith) (omega arith)) s.requires
 
 pub loop-i-preserved : goal.loop-i-preserved
 loop-i-preserved c =
@@ -40,4 +40,4 @@ pub returns : goal.returns
 returns c =
     let l = c.loop-i in
     let s = c in
-    going_end l.invariant.1 (changes_end s.args.before.now s.args.after.now l.i c.loop-i-test.false)
+    going_end l.invariant.1 (changes_end s.args.before.now s.args.after.now l.i (omega arith))
