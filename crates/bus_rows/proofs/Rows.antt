@@ -2,12 +2,13 @@
 -- Rows of Clocks: none, and one event more.
 use Prim.Native.Nat.{ℕ, suc, ◌+◌, ◌-◌, ◌/◌, ◌%◌, ◌≤◌, ◌<◌}
 use mathlib.Core.Path.{◌≡◌, refl, sym, ap, ◌∙◌}
-use mathlib.Core.Bool.{cond, ◌&&◌}
+use mathlib.Core.Bool.{Bool, true, false, cond, ◌&&◌}
 use mathlib.Core.List.{List}
 use native.Mathlib.Omega.{arith}
 use lib.Dec.{eqb}
-use lib.ListN.{length, get_or, set, length-set}
+use lib.ListN.{get_or, set}
 use borrow.Author.Tests.{eqb-true, eqb-false}
+use Rattle.std.specs.Int.{from_bool}
 use Rattle.wire.specs.Bits.{pushed, sent_bit}
 use Rattle.wire.proofs.Tests.{by_test}
 use Rattle.bus_rows.specs.Row.{high, bits_after, heard_after, sent_after}
@@ -16,14 +17,10 @@ use Rattle.bus_rows.specs.Row.{high, bits_after, heard_after, sent_after}
 abbrev pub Clocks : List ℕ → ℕ → ℕ → Type 0
 Clocks es from to = (j : ℕ) → from ≤ j → j < to → get_or es j 0 / 2 ≡ 1
 
-pub settled_length : (i i₀ i' : List ℕ) (k b : ℕ) → i ≡ i₀ → i' ≡ set (set i 27 k) 28 b → length i' ≡ length i₀
-settled_length i i₀ i' k b q e =
-    ap length e ∙ length-set (set i 27 k) 28 b ∙ length-set i 27 k ∙ ap length q
-
--- a place where there is no Clock lies further on than one where there is
-pub further : (es : List ℕ) (i j : ℕ) → i ≤ j → get_or es i 0 / 2 ≡ 1 → (get_or es j 0 / 2 ≡ 1 → ⊥) → i < j
-further es i j h e n =
-    by_test (eqb i j) (λ t. absurd (n (rw (← eqb-true i j t) e))) (λ t. let k = eqb-false i j t in omega arith)
+-- a line as a bit
+pub line_worth : (d : Bool) → from_bool d ≡ cond d 1 0
+line_worth true = refl
+line_worth false = refl
 
 module _ (es : List ℕ) (from : ℕ) where
   pub clocks_none : Clocks es from from

@@ -4,24 +4,12 @@
 // a row. Each function returns the place after the last event that it did.
 #![tactic(auto)]
 
-ghost use Rattle.std.specs.Prelude.{◌≡◌, cond, ◌+◌, ◌<◌, ◌≤◌, length, get_or, set};
+ghost use Rattle.std.specs.Prelude.{◌≡◌, ◌<◌, ◌≤◌, length, get_or, set};
 ghost use Rattle.bus_image.specs.Places.{CLOCKS_AT, BYTE_AT};
 ghost use Rattle.bus_rows.specs.Row.{Received, Sent, Unheard};
 
 use bus_image::places::{BYTE_AT, CLOCKS_AT};
 use wire::bits::{push, sending_line};
-
-// Where a row of at most so many events ends: one bound for its loop.
-fn row_end(from: usize, most: u8, length: usize) -> usize
-    requires { from ≤ length }
-    ensures { (from ≤ result) × (result ≤ length) × (result ≤ from + most) × (from < length → 0 < most → from < result) }
-{
-    let long = most as usize;
-    if length - from < long {
-        return length;
-    }
-    from + long
-}
 
 // The clocks done and the bits of the byte under way.
 fn settle(image: &mut [u8], clocks: u8, byte: u8)
@@ -30,17 +18,6 @@ fn settle(image: &mut [u8], clocks: u8, byte: u8)
 {
     image[CLOCKS_AT] = clocks;
     image[BYTE_AT] = byte;
-}
-
-// An answer: the part's bits, and the line.
-fn lined(pin: u8, line: bool) -> u8
-    requires { pin ≤ 14 }
-    ensures { result ≡ pin + cond line 1 0 }
-{
-    if line {
-        return pin + 1;
-    }
-    pin
 }
 
 // The first seven bits of a byte that comes in: they are only kept.
@@ -58,9 +35,8 @@ pub fn receive_row(
 {
     let mut clocks = image[CLOCKS_AT];
     let mut byte = image[BYTE_AT];
-    let end = row_end(from, 7 - clocks, events.len());
-    let mut i = from;
-    while i < end {
+    let end = events.len().min(from + usize::from(7 - clocks));
+    for i in from..end {
         let event = events[i];
         if event / 2 != 1 {
             settle(image, clocks, byte);
@@ -69,10 +45,9 @@ pub fn receive_row(
         byte = push(byte, event % 2 == 1);
         answers[i] = pin + event % 2;
         clocks += 1;
-        i += 1;
     }
     settle(image, clocks, byte);
-    i
+    end
 }
 
 // The second to seventh bit of a byte that goes out.
@@ -84,21 +59,18 @@ pub fn send_row(image: &mut [u8], pin: u8, events: &[u8], answers: &mut [u8], fr
 {
     let mut clocks = image[CLOCKS_AT];
     let byte = image[BYTE_AT];
-    let end = row_end(from, 7 - clocks, events.len());
-    let mut i = from;
-    while i < end {
+    let end = events.len().min(from + usize::from(7 - clocks));
+    for i in from..end {
         let event = events[i];
         if event / 2 != 1 {
             settle(image, clocks, byte);
             return i;
         }
-        let line = sending_line(byte, clocks, event % 2 == 1);
-        answers[i] = lined(pin, line);
+        answers[i] = pin + u8::from(sending_line(byte, clocks, event % 2 == 1));
         clocks += 1;
-        i += 1;
     }
     settle(image, clocks, byte);
-    i
+    end
 }
 
 // Clocks that nobody hears.
@@ -107,14 +79,12 @@ pub fn idle_row(pin: u8, events: &[u8], answers: &mut [u8], from: usize) -> usiz
     requires from_in_bounds { (from ≤ length events.now) × (length events.now ≤ length answers.old) }
     ensures { Unheard pin events.now answers.old from answers.new result }
 {
-    let mut i = from;
-    while i < events.len() {
+    for i in from..events.len() {
         let event = events[i];
         if event / 2 != 1 {
             return i;
         }
         answers[i] = pin + event % 2;
-        i += 1;
     }
-    i
+    events.len()
 }

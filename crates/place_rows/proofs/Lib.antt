@@ -2,3 +2,4 @@
 pub mod Ledger
 pub mod Inside
 pub mod Rowing
+pub mod Rows

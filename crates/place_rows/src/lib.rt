@@ -1,11 +1,11 @@
 // SPDX-License-Identifier: Apache-2.0
 // Rows of events that are done together: Clocks inside a byte, Clocks that nobody hears, ticks of a core that was tested
-// once. Each function returns the place after the last event that it did.
+// once. Each function returns the place after the last event that it did. The rows of Clocks are those of every part.
 #![tactic(auto)]
 
-ghost use Rattle.std.specs.Prelude.{◌≡◌, true, ◌+◌, ◌/◌, ◌<◌, ◌≤◌, length, get_or, set};
-ghost use Rattle.bus_image.specs.Places.{IDLE, WRITE_COMPANION, READ_MEMORY, PHASE_AT, CLOCKS_AT, BYTE_AT};
-ghost use Rattle.fm3130_image.specs.Image.{image_size, candidate};
+ghost use Rattle.std.specs.Prelude.{◌≡◌, true, ◌+◌, ◌/◌, ◌<◌, ◌≤◌, length, get_or};
+ghost use Rattle.bus_image.specs.Places.{IDLE, WRITE_COMPANION, READ_MEMORY, PHASE_AT, CLOCKS_AT};
+ghost use Rattle.fm3130_image.specs.Image.{candidate};
 ghost use Rattle.fm3130_image.specs.Code.Accepting.{is_image};
 ghost use Rattle.place_clock.specs.Code.Clocking.{Accepted};
 ghost use Rattle.place_tick.specs.Code.Tick.{is_ticking};
@@ -15,28 +15,7 @@ use bus_image::places::{BYTE_AT, CLOCKS_AT, PHASE_AT};
 use place_clock::send::fetched;
 use place_event::event::{lined, shown};
 use place_tick::{counted, unsaid};
-use wire::bits::{push, sending_line};
-
-// Where a row of at most so many events ends: one bound for its loop.
-fn row_end(from: usize, most: u8, length: usize) -> usize
-    requires { from ≤ length }
-    ensures { (from ≤ result) × (result ≤ length) × (result ≤ from + most) × (from < length → 0 < most → from < result) }
-{
-    let long = most as usize;
-    if length - from < long {
-        return length;
-    }
-    from + long
-}
-
-// The clocks done and the bits of the byte under way.
-fn settle(image: &mut [u8], clocks: u8, byte: u8)
-    requires { length image.old ≡ image_size }
-    ensures { image.new ≡ set (set image.old CLOCKS_AT clocks) BYTE_AT byte }
-{
-    image[CLOCKS_AT] = clocks;
-    image[BYTE_AT] = byte;
-}
+use wire::bits::sending_line;
 
 // The first seven bits of a byte that comes in: they are only kept.
 pub fn receive_row(image: &mut [u8], events: &[u8], answers: &mut [u8], from: usize) -> usize
@@ -47,23 +26,7 @@ pub fn receive_row(image: &mut [u8], events: &[u8], answers: &mut [u8], from: us
         image.new answers.new result }
 {
     let pin = shown(image);
-    let mut clocks = image[CLOCKS_AT];
-    let mut byte = image[BYTE_AT];
-    let end = row_end(from, 7 - clocks, events.len());
-    let mut i = from;
-    while i < end {
-        let event = events[i];
-        if event / 2 != 1 {
-            settle(image, clocks, byte);
-            return i;
-        }
-        byte = push(byte, event % 2 == 1);
-        answers[i] = pin + event % 2;
-        clocks += 1;
-        i += 1;
-    }
-    settle(image, clocks, byte);
-    i
+    bus_rows::receive_row(image, pin, events, answers, from)
 }
 
 // The second to seventh bit of a byte that goes out.
@@ -75,23 +38,7 @@ pub fn send_row(image: &mut [u8], events: &[u8], answers: &mut [u8], from: usize
         image.new answers.new result }
 {
     let pin = shown(image);
-    let mut clocks = image[CLOCKS_AT];
-    let byte = image[BYTE_AT];
-    let end = row_end(from, 7 - clocks, events.len());
-    let mut i = from;
-    while i < end {
-        let event = events[i];
-        if event / 2 != 1 {
-            settle(image, clocks, byte);
-            return i;
-        }
-        let line = sending_line(byte, clocks, event % 2 == 1);
-        answers[i] = lined(pin, line);
-        clocks += 1;
-        i += 1;
-    }
-    settle(image, clocks, byte);
-    i
+    bus_rows::send_row(image, pin, events, answers, from)
 }
 
 // Clocks that nobody hears.
@@ -101,17 +48,7 @@ pub fn idle_row(image: &[u8], events: &[u8], answers: &mut [u8], from: usize) ->
     ensures { Clocked events.now image.now answers.old from
         image.now answers.new result }
 {
-    let pin = shown(image);
-    let mut i = from;
-    while i < events.len() {
-        let event = events[i];
-        if event / 2 != 1 {
-            return i;
-        }
-        answers[i] = pin + event % 2;
-        i += 1;
-    }
-    i
+    bus_rows::idle_row(shown(image), events, answers, from)
 }
 
 // Ticks of a core that was tested once: a tick leaves it so.
@@ -121,17 +58,14 @@ pub fn tick_row(image: &mut [u8], events: &[u8], answers: &mut [u8], from: usize
     ensures { Ticked events.now image.old answers.old from
         image.new answers.new result }
 {
-    let mut i = from;
-    while i < events.len() {
+    for i in from..events.len() {
         if events[i] != 4 {
             return i;
         }
         unsaid(counted(image));
-        let pin = shown(image);
-        answers[i] = pin + 1;
-        i += 1;
+        answers[i] = shown(image) + 1;
     }
-    i
+    events.len()
 }
 
 // The first bit of a byte that goes out, where it was not sent yet.
@@ -149,16 +83,13 @@ pub fn first_sent(
     ensures { Begun events.now image.old memory.now answers.old from
         image.new answers.new result }
 {
-    let done = image[CLOCKS_AT];
-    if done != 0 {
+    if image[CLOCKS_AT] != 0 {
         return from;
     }
-    let number = image[PHASE_AT];
-    let byte = fetched(image, memory, number);
-    let pin = shown(image);
-    let event = events[from];
-    let line = sending_line(byte, 0, event % 2 == 1);
-    answers[from] = lined(pin, line);
-    settle(image, 1, byte);
+    let byte = fetched(image, memory, image[PHASE_AT]);
+    let line = sending_line(byte, 0, events[from] % 2 == 1);
+    answers[from] = lined(shown(image), line);
+    image[CLOCKS_AT] = 1;
+    image[BYTE_AT] = byte;
     from + 1
 }
