@@ -7,10 +7,10 @@ use Prim.Native.Nat.{ℕ, ◌≤◌}
 use mathlib.Core.Path.{◌≡◌, refl, sym, ap, subst, ◌∙◌}
 use mathlib.Core.Bool.{true}
 use mathlib.Core.List.{List, [], ◌∷◌, append-nil}
-use mathlib.Core.Option.{some}
 use native.Mathlib.Omega.{arith}
 use lib.ListN.{length, drop}
 use lib.Seq.{take_at}
+use Rattle.std.specs.Prelude.{Some}
 use Rattle.wire.proofs.Tests.{and_split, and_join}
 use Rattle.numbers.specs.Numbers.{accepted}
 use Rattle.bus_list.specs.Run.{Ended, run_of, all_known}
@@ -21,7 +21,7 @@ use Rattle.bus_list.proofs.Lists.{Lists, Reads, outcome_of}
 use Rattle.bus_list.proofs.Ends.{Accepted, accepted_outcome, accepted_number, accepted_by, run_again}
 
 -- two states in one answer
-some_is : {X : Type 0} {s t : X} → some s ≡ some t → s ≡ t
+some_is : {X : Type 0} {s t : X} → Some s ≡ Some t → s ≡ t
 some_is e = cc
 
 module _ (L : Lists) where

@@ -5,7 +5,7 @@
 use Prim.Native.Nat.{ℕ}
 use mathlib.Core.Path.{◌≡◌}
 use mathlib.Core.List.{List}
-use mathlib.Core.Option.{Option, some, none}
+use Rattle.std.specs.Prelude.{Option, Some, None}
 use Rattle.numbers.specs.Numbers.{wrong_state}
 use Rattle.bus_list.specs.Run.{Stepped, Ended}
 use Rattle.bus_list.specs.Outcome as outcome
@@ -33,8 +33,8 @@ pub record Reads (L : Lists) : Type 1 where
   pub Read : List ℕ → L.State → Type 0
   pub Unread : List ℕ → Type 0
   pub or_not : {X : Type 0} (i : List ℕ) → ((s : L.State) → Read i s → X) → (Unread i → X) → X
-  pub some_read : (i : List ℕ) (s : L.State) → Read i s → L.returned i ≡ some s
-  pub none_read : (i : List ℕ) → Unread i → L.returned i ≡ none
+  pub some_read : (i : List ℕ) (s : L.State) → Read i s → L.returned i ≡ Some s
+  pub none_read : (i : List ℕ) → Unread i → L.returned i ≡ None
   pub number : (i : List ℕ) → Unread i → L.number i ≡ wrong_state
   pub again : (s : L.State) → Ok s → Read (L.image_of s) s
   pub ok : (i : List ℕ) (s : L.State) → Read i s → Ok s

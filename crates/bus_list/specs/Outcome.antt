@@ -4,8 +4,7 @@
 --   Outcome, refused, written           all that a caller can see; under a number; of events that were done
 --   on_decoded, outcome_of                the tests in the order of the numbers
 --   Numbered, numbered                  the same without the count, which the number tells
-use Rattle.std.specs.Prelude.{ℕ, cond, List, leb, eqb, length}
-use Rattle.std.proofs.Math.Option.{Option, some, none}
+use Rattle.std.specs.Prelude.{ℕ, cond, List, leb, eqb, length, Option, Some, None}
 use Rattle.numbers.specs.Numbers.{accepted, wrong_memory, unknown_event, short_answers}
 use Rattle.bus_list.specs.Run.{Stepped, Ended, run_of, answers_over, all_known}
 
@@ -35,8 +34,8 @@ written image_of r es a =
 module _ {State : Type 0} (after : State → List ℕ → ℕ → Stepped State) (image_of : State → List ℕ) (size last : ℕ) where
   -- "All events are tested before the first is done", on what reading the image gave: its number, and its state, if any.
   abbrev pub on_decoded : ℕ → Option State → List ℕ → List ℕ → List ℕ → List ℕ → Outcome
-  on_decoded n none i m es a = refused n i m a
-  on_decoded n (some s) i m es a =
+  on_decoded n None i m es a = refused n i m a
+  on_decoded n (Some s) i m es a =
       cond (all_known last es)
       (cond (leb (length es) (length a)) (written image_of (run_of after s m es) es a) (refused short_answers i m a))
       (refused unknown_event i m a)
