@@ -45,13 +45,22 @@ impl Refusal {
     }
 }
 
+// The number as a host program is told it.
+impl From<Refusal> for u64 {
+    ghost from_gives = { λ r n. n ≡ number_of r };
+
+    fn from(refusal: Refusal) -> u64 {
+        u64::from(refusal.number())
+    }
+}
+
 // What a host program is told of a call: 0 where it was accepted, else the refusal's number.
 pub fn number_told(outcome: Result<(), Refusal>) -> u64
     ensures { result ≡ number_told outcome }
 {
     match outcome {
-        Ok(()) => ACCEPTED as u64,
-        Err(refusal) => refusal.number() as u64,
+        Ok(()) => u64::from(ACCEPTED),
+        Err(refusal) => u64::from(refusal),
     }
 }
 
