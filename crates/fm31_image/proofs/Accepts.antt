@@ -29,7 +29,7 @@ use Rattle.bus_accept.proofs.Stands.{power_stands, transfer_stands_lem, power_wr
 use Rattle.bus_accept.proofs.Words.{listed, listed_split, fourth_0, below_1, below_2, byte_3}
 use Rattle.fm31_image.specs.Image.{image_size, image_of, counts_at, counters_at, candidate, decode_of}
 use Rattle.fm31_image.specs.Accepting.{is_image, same_in_all, places_within}
-use Rattle.fm31_image.specs.declared.Decoded.TheVariants.{Good, Bad}
+use Rattle.std.specs.Prelude.{Some, None}
 use Rattle.fm31_image.proofs.Images.{image_length}
 
 -- bytes 25 to 29 of an image
@@ -140,14 +140,14 @@ module _ (size select : ℕ) where
     image_written =
         same_equal _ _ (and_split (well_formed size select (candidate i)) (same_bytes (image_of (candidate i)) i) h).1
 
-    pub image_read : decode_of size select i ≡ Good (candidate i)
+    pub image_read : decode_of size select i ≡ Some (candidate i)
     unfolding is_image decode_of
     image_read = rw h
 
     pub image_long : length i ≡ image_size
     image_long = ap length (sym image_written) ∙ image_length (candidate i)
 
-  pub image_not_read : (i : List ℕ) → is_image size select i ≡ false → decode_of size select i ≡ Bad
+  pub image_not_read : (i : List ℕ) → is_image size select i ≡ false → decode_of size select i ≡ None
   unfolding is_image decode_of
   image_not_read i h = rw h
 

@@ -3,19 +3,16 @@
 -- layout, in docs/. Image and state go both ways without loss."). docs/FAMILY.md has the table.
 --   image_size, mark, image_of          the 64 bytes that a state writes
 --   candidate, decode_of               the state that an image holds, if a well-formed state writes it
-use Rattle.std.specs.Prelude.{ℕ, ◌+◌, ◌*◌, ◌/◌, ◌%◌, cond, ◌&&◌, List, [], ◌∷◌, ◌++◌, get_or, replicate}
-use Rattle.bus.specs.declared.Bus.{Bus}
+use Rattle.std.specs.Prelude.{ℕ, ◌+◌, cond, ◌&&◌, List, [], ◌∷◌, ◌++◌, get_or, replicate, Option, Some, None}
 use Rattle.fm31_counters.specs.Registers.{register_bytes, registers_of}
 use Rattle.fm31_counters.specs.declared.Counts.{Counts}
 use Rattle.fm31_counters.specs.declared.Counters.{Counters}
 use Rattle.fm31.specs.Limits.{well_formed}
 use Rattle.fm31.specs.declared.State.{State}
 use Rattle.bus_image.specs.Bytes.{same_bytes}
-use Rattle.bus_image.specs.Layout.{power_number, power_of, transfer_of, phase_of}
-use Rattle.bus_image.specs.Places.{COMPANION_ADDRESS_AT, ADDRESS_HIGH_AT, ADDRESS_LOW_AT, SUPPLIES_AT}
-use Rattle.bus_image.specs.Places.{PHASE_AT, CLOCKS_AT, BYTE_AT, FIRST_AT}
-use Rattle.fm31_image.specs.declared.Decoded.{Decoded}
-use Rattle.fm31_image.specs.declared.Decoded.TheVariants.{Good, Bad}
+use Rattle.bus_image.specs.Layout as layout
+use Rattle.bus_image.specs.Places.{COMPANION_ADDRESS_AT}
+pub use Rattle.bus_image.specs.Layout.{bus_at}
 
 -- "State image (64 bytes)."
 abbrev pub image_size : ℕ
@@ -31,10 +28,7 @@ counts_bytes n = n.one.low ∷ n.one.high ∷ n.two.low ∷ n.two.high ∷ []
 
 -- Bytes 22 to 29, as in the FM3130's image: the two addresses, the supplies, and where a transfer stands.
 abbrev pub bus_bytes : State → List ℕ
-bus_bytes s =
-    s.counters.address ∷ s.bus.address / 256 ∷ s.bus.address % 256 ∷ power_number s.bus.power
-    ∷ (transfer_of s.bus.phase).phase ∷ (transfer_of s.bus.phase).clocks
-    ∷ (transfer_of s.bus.phase).byte ∷ (transfer_of s.bus.phase).first ∷ []
+bus_bytes s = s.counters.address ∷ layout.bus_bytes s.bus
 
 -- "The image begins with these 16 registers"; then the snapshot, two zeros, bytes 22 to 29, zeros, and the mark.
 unfoldable pub image_of : State → List ℕ
@@ -54,20 +48,11 @@ counts_at i n =
 abbrev pub counters_at : List ℕ → Counters
 counters_at i = record { registers = registers_of i; snapshot = counts_at i 16; address = get_or i COMPANION_ADDRESS_AT 0 }
 
--- Auxiliary: bytes 23 to 29, as a bus.
-abbrev pub bus_at : List ℕ → Bus
-bus_at i =
-    record {
-      power = power_of (get_or i SUPPLIES_AT 0);
-      phase = phase_of (get_or i PHASE_AT 0) (get_or i CLOCKS_AT 0) (get_or i BYTE_AT 0) (get_or i FIRST_AT 0);
-      address = get_or i ADDRESS_HIGH_AT 0 * 256 + get_or i ADDRESS_LOW_AT 0;
-    }
-
 -- Auxiliary: all fields by their places, so the one state that could write an image.
 unfoldable pub candidate : List ℕ → State
 candidate i = record { bus = bus_at i; counters = counters_at i }
 
 -- The state that an image holds: the candidate, if it is well-formed for size and select and writes this very image.
-unfoldable pub decode_of : ℕ → ℕ → List ℕ → Decoded
-decode_of size select i = cond (well_formed size select (candidate i) && same_bytes (image_of (candidate i)) i) (Good
-    (candidate i)) Bad
+unfoldable pub decode_of : ℕ → ℕ → List ℕ → Option State
+decode_of size select i = cond (well_formed size select (candidate i) && same_bytes (image_of (candidate i)) i) (Some
+    (candidate i)) None

@@ -10,8 +10,6 @@ use Rattle.numbers.specs.Numbers.{accepted, wrong_state}
 use Rattle.fm31.specs.Limits.{well_formed}
 use Rattle.fm31.specs.declared.State.{State}
 use Rattle.fm31_image.specs.Image.{image_of}
-use Rattle.fm31_image.specs.declared.Decoded.{Decoded}
-use Rattle.fm31_image.specs.declared.Decoded.TheVariants.{Good, Bad}
 
 -- Auxiliary: the image is the one that the state, well-formed for size and select, writes.
 abbrev pub WrittenBy : ℕ → ℕ → List ℕ → State → Type 0
@@ -25,15 +23,15 @@ pub record Says : Type 1 where
   pub returned : Option State
 
 -- Case by case: 0, "none below", with the state that writes the image; 2, "no well-formed state writes it", with none.
-abbrev pub decoded_says : ℕ → ℕ → Decoded → Says
-decoded_says size select (Good s) = record {
+abbrev pub decoded_says : ℕ → ℕ → Option State → Says
+decoded_says size select (Some s) = record {
   number = accepted;
   given = λ i. WrittenBy size select i s;
   returned = Some s;
 }
-decoded_says size select Bad =
+decoded_says size select None =
     record { number = wrong_state; given = λ i. (s : State) → WrittenBy size select i s → ⊥; returned = None }
 
 -- The contract of `decode`: an answer is given exactly when its line says so.
-abbrev pub DecodeSettled : ℕ → ℕ → List ℕ → Decoded → Type 0
+abbrev pub DecodeSettled : ℕ → ℕ → List ℕ → Option State → Type 0
 DecodeSettled size select i r = (decoded_says size select r).given i

@@ -8,13 +8,12 @@ use crate::image::LENGTH;
 use crate::places::{SPARE_AT, SPARE_SECOND_AT};
 use bus_accept::{bus_within, has_end, word};
 use bus_image::bytes::pair;
-use bus_image::places::{
-    ADDRESS_HIGH_AT, ADDRESS_LOW_AT, BYTE_AT, CLOCKS_AT, COMPANION_ADDRESS_AT, FIRST_AT, PHASE_AT,
-    SUPPLIES_AT,
-};
+use bus_image::layout::transfer_at;
+use bus_image::places::{ADDRESS_HIGH_AT, ADDRESS_LOW_AT, COMPANION_ADDRESS_AT, SUPPLIES_AT};
 use fm31_counters::map::{FIRST, LAST};
 
 // Whether the bytes that all images have alike are so: two zeros behind the snapshot, and the end with the mark.
+#[tactic(auto, unfolding(crate::specs::Accepting::same_in_all))]
 fn same_in_all(image: &[u8]) -> bool
     requires { length image.now ≡ image_size }
     ensures { result ≡ same_in_all image.now }
@@ -51,14 +50,5 @@ pub fn is_image(image: &[u8], size: u16, select: u8) -> bool
     if !places_within(image, size) {
         return false;
     }
-    bus_within(
-        select,
-        FIRST,
-        LAST,
-        image[SUPPLIES_AT],
-        image[PHASE_AT],
-        image[CLOCKS_AT],
-        image[BYTE_AT],
-        image[FIRST_AT],
-    )
+    bus_within(select, FIRST, LAST, image[SUPPLIES_AT], transfer_at(image))
 }

@@ -21,8 +21,7 @@ fn ask(image: &mut [u8], bus: Bus, deed: Deed) -> Reply
     ensures { (s : State) → image.old ≡ image_of s → bus ≡ s.bus
         → Served s (Serve.served_of companion31 deed s.counters) result image.new }
 {
-    let counters = counters_at(image);
-    let served = serve(counters, deed);
+    let served = serve(counters_at(image), deed);
     let state = State {
         bus,
         counters: served.companion,

@@ -12,13 +12,13 @@ use borrow.Author.Tests.{ltb-false, lt-ltb, eqb-true}
 use Rattle.wire.proofs.Tests.{by_test, and_split, and_join}
 use Rattle.fm31.specs.Chip.{size_of}
 use Rattle.fm31.specs.declared.Size.{Size}
+use Rattle.fm31.specs.declared.State.{State}
 use Rattle.set_event.specs.Set.{held, Place, first, second, third, fourth, number_of, at}
 use Rattle.set_event.specs.Make.{is_within, if_here, places_are}
 use Rattle.set_event.specs.Outcome.{lent_to}
 use Rattle.set_event.proofs.Facts.{four_of, of_here, of_places}
 use Rattle.fm31_image.specs.Image.{image_size, decode_of}
-use Rattle.fm31_image.specs.declared.Decoded.{Decoded}
-use Rattle.fm31_image.specs.declared.Decoded.TheVariants.{Good, Bad}
+use Rattle.std.specs.Prelude.{Option, Some, None}
 use Rattle.fm31_image.specs.Reading.{DecodeSettled}
 use Rattle.fm31_image.proofs.Images.{image_decode, decode_length, settled_decode}
 use Rattle.set_image.specs.Read.{count_of, mark_size, image_at, got_of, unread, device_at, place_of, reading_of}
@@ -28,7 +28,7 @@ not_true e = let z : ◌≡◌ {A = ℕ} 0 1 = cc in absurd (omega arith)
 
 -- where the images end before this one, it is none
 pub short_image : (images : List ℕ) (v : ℕ) → length images < image_size * v + image_size → (size select : ℕ)
-    → decode_of size select (image_at v images) ≡ Bad
+    → decode_of size select (image_at v images) ≡ None
 short_image images v h size select =
     let rest = drop (image_size * v) images in
     let n : length rest < image_size = let e = length-drop (image_size * v) images in omega (arith, e) in
@@ -41,17 +41,17 @@ module _ (plan images : List ℕ) (v : ℕ) (k : Size) (p : k ≡ mark_size (get
   unfolding device_at
   device_short h = rw (← p, short_image images v h (size_of k) (get_or plan v 0 % 4))
 
-  pub device_read : (z : ℕ) (d : Decoded) → z ≡ size_of k → DecodeSettled z (get_or plan v 0 % 4) (image_at v images) d
+  pub device_read : (z : ℕ) (d : Option State) → z ≡ size_of k → DecodeSettled z (get_or plan v 0 % 4) (image_at v images) d
       → device_at plan images v ≡ got_of (ltb (get_or plan v 0) 8) k (get_or plan v 0 % 4) d
   unfolding device_at
   device_read z d q h = rw (← p, ← q, settled_decode z (get_or plan v 0 % 4) (image_at v images) d h)
 
 module _ (fits : Bool) (k : Size) (select : ℕ) (image m : List ℕ) (small : select < 4) where
-  got_within : (d : Decoded) → decode_of (size_of k) select image ≡ d → (got_of fits k select d).good ≡ true
+  got_within : (d : Option State) → decode_of (size_of k) select image ≡ d → (got_of fits k select d).good ≡ true
       → is_within (held (got_of fits k select d).member m) ≡ true
   unfolding is_within
-  got_within (Good s) e h = and_join _ _ (lt-ltb select 4 small) (image_decode (size_of k) select image s e).0
-  got_within Bad e h = not_true h
+  got_within (Some s) e h = and_join _ _ (lt-ltb select 4 small) (image_decode (size_of k) select image s e).0
+  got_within None e h = not_true h
 
 module _ (plan images : List ℕ) where
   device_within : (v : ℕ) (m : List ℕ) → (device_at plan images v).good ≡ true

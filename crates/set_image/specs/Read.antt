@@ -7,14 +7,13 @@
 --   absent, unread, got_of       what is not on the line; a device without, and with, what its image gave
 --   device_at, place_of           the device at a place that the plan has; at any place
 --   reading_of                   the set
-use Rattle.std.specs.Prelude.{ℕ, ◌*◌, ◌/◌, ◌%◌, Bool, true, false, cond, ◌&&◌, List, eqb, ltb, length, take, drop, get_or}
+use Rattle.std.specs.Prelude.{ℕ, ◌*◌, ◌/◌, ◌%◌, Bool, true, false, cond, ◌&&◌, List, eqb, ltb, length, take, drop, get_or, Option, Some, None}
 use Rattle.bus.specs.Select.{lone}
 use Rattle.fm31.specs.Chip.{size_of, fresh}
 use Rattle.fm31.specs.declared.Size.{Size}
 use Rattle.fm31.specs.declared.Size.TheVariants.{Kb64, Kb256}
 use Rattle.fm31_image.specs.Image.{image_size, decode_of}
-use Rattle.fm31_image.specs.declared.Decoded.{Decoded}
-use Rattle.fm31_image.specs.declared.Decoded.TheVariants.{Good, Bad}
+use Rattle.fm31.specs.declared.State.{State}
 use Rattle.set_image.specs.declared.Got.{Got}
 use Rattle.set_image.specs.declared.Reading.{Reading}
 
@@ -29,16 +28,20 @@ mark_size mark = cond (eqb (mark / 4 % 2) 1) Kb256 Kb64
 abbrev pub image_at : ℕ → List ℕ → List ℕ
 image_at v images = take image_size (drop (image_size * v) images)
 
+-- Auxiliary: a device of which no image tells.
+abbrev pub untold : Bool → Size → ℕ → Got
+untold g k z = record { good = g; member = record { size = k; select = z; state = fresh } }
+
 -- A place that is not on the line is never looked at.
 abbrev pub absent : Got
-absent = record { good = true; member = record { size = Kb64; select = lone; state = fresh } }
+absent = untold true Kb64 lone
 
 abbrev pub unread : Size → ℕ → Got
-unread k z = record { good = false; member = record { size = k; select = z; state = fresh } }
+unread k z = untold false k z
 
-abbrev pub got_of : Bool → Size → ℕ → Decoded → Got
-got_of fits k z (Good s) = record { good = fits; member = record { size = k; select = z; state = s } }
-got_of fits k z Bad = unread k z
+abbrev pub got_of : Bool → Size → ℕ → Option State → Got
+got_of fits k z (Some s) = record { good = fits; member = record { size = k; select = z; state = s } }
+got_of fits k z None = unread k z
 
 unfoldable pub device_at : List ℕ → List ℕ → ℕ → Got
 device_at plan images v =

@@ -13,6 +13,8 @@ pub mod write;
 
 // What a plan and an image say of one device: whether they are good, and the device. Where the image is not, the size and
 // the select bits are the plan's all the same.
+// Stays (plain): no Result, here and below: the count, the sizes and the select bits are asked for where an image is not good too,
+// since numbers 9 and 1 go before 2.
 #[derive(Clone, Copy)]
 pub struct Got {
     pub good: bool,

@@ -2,65 +2,46 @@
 // The set that a plan and images hold. A plan has one byte a device: bits 1 and 0 are its select bits, bit 2 is 1 for the
 // 256Kb size; the image of the device at place 0 to 3 begins at 64 times that place.
 ghost use Rattle.std.specs.Prelude.{◌≡◌, ◌≤◌, ◌<◌, length};
-ghost use Rattle.set_image.specs.Read.{count_of, mark_size, absent, unread, device_at, place_of, reading_of};
+ghost use Rattle.set_image.specs.Read.{count_of, mark_size, untold, device_at, place_of, reading_of};
 
 use crate::{Got, Reading};
 use bus::select::LONE;
 use fm31::step::size_of;
 use fm31::{Size, State};
-use fm31_image::Decoded;
 use fm31_image::image::{LENGTH, decode};
 use set_event::{Member, Set};
 
 // How many devices a plan has; five stands for more than four.
+#[tactic(auto, unfolding(crate::specs::Read::count_of))]
 fn count_of(plan: &[u8]) -> u8
     ensures { result ≡ count_of plan.now }
 {
-    if plan.len() < 5 {
-        return plan.len() as u8;
-    }
-    5
+    plan.len().min(5) as u8
 }
 
 // The size that a plan's byte chooses.
+#[tactic(auto, unfolding(crate::specs::Read::mark_size))]
 fn mark_size(mark: u8) -> Size
     ensures { result ≡ mark_size mark }
 {
     if mark / 4 % 2 == 1 {
-        return Size::Kb256;
-    }
-    Size::Kb64
-}
-
-// What is not on the line.
-fn absent() -> Got
-    ensures { result ≡ absent }
-{
-    let state = State::fresh();
-    let member = Member {
-        size: Size::Kb64,
-        select: LONE,
-        state: state,
-    };
-    Got {
-        good: true,
-        member: member,
+        Size::Kb256
+    } else {
+        Size::Kb64
     }
 }
 
-// A device whose image no well-formed state writes.
-fn unread(size: Size, select: u8) -> Got
-    ensures { result ≡ unread size select }
+// A device of which no image tells: what is not on the line, and one whose image no well-formed state writes.
+fn untold(good: bool, size: Size, select: u8) -> Got
+    ensures { result ≡ untold good size select }
 {
-    let state = State::fresh();
-    let member = Member {
-        size: size,
-        select: select,
-        state: state,
-    };
     Got {
-        good: false,
-        member: member,
+        good,
+        member: Member {
+            size,
+            select,
+            state: State::fresh(),
+        },
     }
 }
 
@@ -74,34 +55,36 @@ fn device_at(plan: &[u8], images: &[u8], place: usize) -> Got
     let select = mark % 4;
     let from = LENGTH * place;
     if images.len() < from + LENGTH {
-        return unread(size, select);
+        return untold(false, size, select);
     }
-    let Decoded::Good(state) = decode(&images[from..from + LENGTH], size_of(size), select) else {
-        return unread(size, select);
-    };
-    let member = Member {
-        size: size,
-        select: select,
-        state: state,
+    let Some(state) = decode(&images[from..from + LENGTH], size_of(size), select) else {
+        return untold(false, size, select);
     };
     Got {
         good: mark < 8,
-        member: member,
+        member: Member {
+            size,
+            select,
+            state,
+        },
     }
 }
 
 // What is at a place, on the line or not.
+#[tactic(auto, unfolding(crate::specs::Read::place_of))]
 fn place_of(plan: &[u8], images: &[u8], place: usize) -> Got
     requires { place ≤ 3 }
     ensures { result ≡ place_of plan.now images.now place }
 {
     if place < plan.len() {
-        return device_at(plan, images, place);
+        device_at(plan, images, place)
+    } else {
+        untold(true, Size::Kb64, LONE)
     }
-    absent()
 }
 
 // The set that a plan and images hold.
+#[tactic(auto, unfolding(crate::specs::Read::reading_of))]
 pub fn read_set(plan: &[u8], images: &[u8]) -> Reading
     ensures { result ≡ reading_of plan.now images.now }
 {
@@ -111,20 +94,14 @@ pub fn read_set(plan: &[u8], images: &[u8]) -> Reading
     let c = place_of(plan, images, 2);
     let d = place_of(plan, images, 3);
     let long = images.len() == LENGTH * count as usize;
-    let good = long & (a.good & (b.good & (c.good & d.good)));
-    let first = a.member;
-    let second = b.member;
-    let third = c.member;
-    let fourth = d.member;
-    let set = Set {
-        count: count,
-        first: first,
-        second: second,
-        third: third,
-        fourth: fourth,
-    };
     Reading {
-        good: good,
-        set: set,
+        good: long & (a.good & (b.good & (c.good & d.good))),
+        set: Set {
+            count,
+            first: a.member,
+            second: b.member,
+            third: c.member,
+            fourth: d.member,
+        },
     }
 }

@@ -25,6 +25,8 @@ pub returns : goal.returns
 returns c =
     let t = c in
     let k = t in
-    c.bus_within.ensures ∙ right_so_far _ _ _ t.if-image-ne-LENGTH.false ((λ k₁. omega (arith, k.shared_slice_known-1.given k₁)))
+    c.bus_within.ensures
+    ∙ rw c.transfer_at.ensures
+    (right_so_far _ _ _ t.if-image-ne-LENGTH.false ((λ k₁. omega (arith, k.shared_slice_known-1.given k₁)))
     (sym t.same_in_all.ensures ∙ t.if-not-same_in_all.false)
-    (sym t.places_within.ensures ∙ t.if-not-places_within.false)
+    (sym t.places_within.ensures ∙ t.if-not-places_within.false))

@@ -19,8 +19,8 @@ happen-went-requires c =
     let s = c in
     record { ready = bus_ready _ _ _ _ s.requires.accepted _ c.bus_at-bus.ensures; event_bound = s.requires.event_le_last_event }
 
-pub put_bus-requires : goal.put_bus-requires
-put_bus-requires c =
+pub write_bus-requires : goal.write_bus-requires
+write_bus-requires c =
     let v = c in
     let s = v in
     served_long _ _ _ _ s.requires.accepted _ v.bus_at-bus.ensures _ v.deed_of.result _ v.serve_at-reply.ensures
@@ -31,4 +31,4 @@ returns c =
     let b = v in
     let s = b in
     happened _ _ _ _ s.requires.accepted _ b.bus_at-bus.ensures _ _ _ _ _ _ _ _ _ refl v.deed_of.ensures
-    v.serve_at-reply.ensures c.happen-went.ensures c.put_bus.ensures c.answer_byte.ensures
+    v.serve_at-reply.ensures c.happen-went.ensures c.write_bus.ensures c.answer_byte.ensures

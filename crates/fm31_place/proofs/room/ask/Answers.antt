@@ -4,9 +4,9 @@ use Rattle.fm31_place.proofs.Lying.{asked}
 use Rattle.fm31_place.proofs.room.ask.Goals as goal
 
 pub serve-served-requires : goal.serve-served-requires
-serve-served-requires c = let p = c.requires in rw c.counters_at-counters.ensures (p.1, p.2)
+serve-served-requires c = let p = c.requires in rw c.counters_at.ensures (p.1, p.2)
 
 pub returns : goal.returns
 returns c s e u =
     let v = c in
-    asked s _ e v.args.deed _ _ _ _ u v.counters_at-counters.ensures v.serve-served.ensures c.write_image.ensures
+    asked s _ e v.args.deed _ _ _ _ u v.counters_at.ensures v.serve-served.ensures c.write_image.ensures

@@ -1,16 +1,22 @@
 -- SPDX-License-Identifier: Apache-2.0
--- `set_image::write::write_at` meets its contract.
-use Rattle.set_image.proofs.Pastes.{image_at_lem, image_away}
+-- `set_image::write::write_at` meets its contract: the image over its place, or none where the place is not on the line.
+use Rattle.std.proofs.Common.{arith, rules, ◌≡◌, ◌*◌, sym}
+use Rattle.std.proofs.lemmas.Slice.{put_mid-paste}
+use borrow.Author.Tests.{lt-ltb, le-ltb}
+use Rattle.fm31_image.specs.Image.{image_size, image_of}
+use Rattle.fm31_image.proofs.Images.{image_length}
+use Rattle.set_image.specs.Write.{image_in}
 use Rattle.set_image.proofs.write.write_at.Goals as goal
 
 pub returns-then-place-count : goal.returns-then-place-count
+unfolding image_in
 returns-then-place-count c =
-    let p = c in
-    let i = p in
     let a = c.args in
-    image_at_lem a.count a.place a.state a.images.now i.if-place-count.true _ _ i.image_of-written.ensures
-    p.paste.ensures
+    let written : c.copy_from_slice.new.self ≡ image_of a.state = search rules in
+    rw (lt-ltb a.place a.count c.if-place-count.true)
+    (put_mid-paste (image_size * a.place) _ a.images.now _ (image_of a.state) image_size written (omega arith)
+    (sym (image_length a.state)))
 
 pub returns-else-place-count : goal.returns-else-place-count
-returns-else-place-count c =
-    let a = c.args in image_away a.count a.place a.state a.images.now c.if-place-count.false
+unfolding image_in
+returns-else-place-count c = rw (le-ltb c.args.place c.args.count c.if-place-count.false)
