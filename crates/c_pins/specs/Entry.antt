@@ -1,6 +1,6 @@
 -- SPDX-License-Identifier: Apache-2.0
 -- The whole outcome of the functions on image and memory, refusals too.
-use Rattle.std.specs.Prelude.{ℕ, ◌≡◌, Bool, true, false, cond, ◌&&◌, List, [], ◌∷◌, eqb, ltb, length, get_or}
+use Rattle.std.specs.Prelude.{ℕ, ◌≡◌, Bool, false, cond, ◌&&◌, List, eqb, ltb, length, get_or}
 use Rattle.numbers.specs.Numbers.{wrong_memory, wrong_state}
 use Rattle.fm3130.specs.Chip.{memory_size}
 use Rattle.fm3130_image.specs.Image.{image_of, decode_of}
