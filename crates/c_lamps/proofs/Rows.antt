@@ -6,6 +6,7 @@ use mathlib.Core.Path.{◌≡◌, refl, sym, ap, ◌∙◌}
 use mathlib.Core.Bool.{Bool, true, false, cond, not, ◌&&◌}
 use mathlib.Core.List.{List, [], ◌∷◌, ◌++◌, append-nil}
 use native.Mathlib.Omega.{arith}
+use Rattle.std.specs.List.{prefix_len}
 use lib.Dec.{eqb, leb}
 use lib.ListN.{length, take, get_or, drop_of_length-le}
 use borrow.Author.Tests.{eq-eqb, ne_eqb, eqb-true, eqb-false, leb-true, leb-false}
@@ -242,13 +243,23 @@ row_proven s f m es l w h =
     ∙ rw (t, ← idle_by (run_of s m es).state.phase) refl)
 
 -- the front of a list, all of it Clocks
-pub clocks_front : (m i : ℕ) (es : List ℕ) → i ≤ length (take m es) → ((x : ℕ) → x < i → get_or (take m es) x 0 / 2 ≡ 1)
-    → Clocks (take i es)
-clocks_front m zero es l h = tt
-clocks_front zero (suc i) es l h = absurd (omega arith)
-clocks_front (suc m) (suc i) [] l h = absurd (omega arith)
-clocks_front (suc m) (suc i) (e ∷ es) l h =
-    (h 0 (omega arith), clocks_front m i es (omega arith) (λ x t. h (suc x) (omega arith)))
+abbrev pub front : List ℕ → ℕ
+front es = prefix_len (λ e. eqb (e / 2) 1) es
+
+pub front_within : (es : List ℕ) → front es ≤ length es
+front_within [] = omega arith
+front_within (e ∷ es) =
+    let l = front_within es in by_test (eqb (e / 2) 1) (λ q. rw q (omega arith)) (λ q. rw q (omega arith))
+
+pub clocks_front : (m : ℕ) (es : List ℕ) → Clocks (take (front (take m es)) es)
+clocks_front zero [] = tt
+clocks_front zero (e ∷ es) = tt
+clocks_front (suc m) [] = tt
+clocks_front (suc m) (e ∷ es) =
+    by_test (eqb (e / 2) 1) (λ q. rw (q, one_more (front (take m es))) (eqb-true (e / 2) 1 q, clocks_front m es)) (λ q. rw q tt)
+  where
+    one_more : (n : ℕ) → 1 + n ≡ suc n
+    one_more n = omega arith
 
 -- what lies in an accepted image
 pub clocks_lain : (i : List ℕ) → is_image i ≡ true → get_or i 27 0 ≡ clocks_of (candidate i).phase

@@ -1,7 +1,8 @@
 // SPDX-License-Identifier: Apache-2.0
 // Clocks of one byte, up to its eighth: they leave the lamps as they are, so the device does them in a row. What the record
 // keeps of the byte under way is gathered from their answers.
-ghost use Rattle.std.specs.Prelude.{◌≡◌, true, false, ◌+◌, ◌<◌, ◌≤◌, length, take};
+ghost use Rattle.std.specs.Prelude.{◌≡◌, true, false, ◌+◌, ◌/◌, ◌<◌, ◌≤◌, eqb, length, take};
+ghost use Rattle.std.specs.List.{prefix_len};
 ghost use Rattle.fm3130_image.specs.Image.{candidate};
 ghost use Rattle.fm3130_image.specs.Code.Accepting.{is_image};
 ghost use Rattle.lamps.specs.Log.{clocks_of};
@@ -11,17 +12,18 @@ use bus_image::phases::READ_MEMORY;
 use bus_image::places::CLOCKS_AT;
 use lamps::Follower;
 
-// With how many Clocks a list begins, at most so many.
+// With how many Clocks a list begins.
+fn clocks_before(events: &[u8]) -> usize
+    ensures { result ≡ prefix_len (λ e. eqb (e / 2) 1) events.now }
+{
+    events.iter().take_while(|event| **event / 2 == 1).count()
+}
+
+// The same, at most so many.
 fn leading_clocks(events: &[u8], most: u8) -> usize
     ensures { (result ≤ length events.now) × (result ≤ most) × Clocks (take result events.now) }
 {
-    let first = &events[..events.len().min(usize::from(most))];
-    for (i, event) in first.iter().enumerate() {
-        if event / 2 != 1 {
-            return i;
-        }
-    }
-    first.len()
+    clocks_before(&events[..events.len().min(usize::from(most))])
 }
 
 // How many events are done together: the Clocks that are left of a byte before its ninth, or one event. A refused byte has
