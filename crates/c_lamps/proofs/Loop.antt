@@ -1,33 +1,65 @@
 -- SPDX-License-Identifier: Apache-2.0
 -- The ways through the tests of the list run with the record.
 use Prim.Native.Nat.{ℕ, ◌≤◌, ◌<◌}
-use mathlib.Core.Path.{◌≡◌, sym}
-use mathlib.Core.Bool.{true, false}
+use mathlib.Core.Path.{◌≡◌, refl, sym}
+use mathlib.Core.Bool.{Bool, true, false}
+use Rattle.std.specs.Bool.{then_some}
+use Rattle.std.specs.Option.{ok_or}
+use Rattle.std.proofs.Common.{Ok, Err}
+use Rattle.wire.proofs.Tests.{by_test}
+use lib.Dec.{eqb}
 use mathlib.Core.List.{List}
 use lib.ListN.{length}
-use borrow.Author.Tests.{le-leb, lt-leb, eq-eqb, ne_eqb}
+use borrow.Author.Tests.{le-leb, lt-leb, eq-eqb, eqb-true}
 use Rattle.std.specs.Prelude.{Some, None}
-use Rattle.numbers.specs.Numbers.{accepted, wrong_memory, wrong_state, unknown_event, short_answers}
+use Rattle.numbers.specs.Numbers.{accepted, wrong_state, unknown_event, short_answers}
+use Rattle.numbers.specs.declared.Refusal.{Refusal}
+use Rattle.numbers.specs.declared.Refusal.TheVariants.{WrongMemory, WrongState}
 use Rattle.fm3130.specs.Chip.{memory_size}
+use Rattle.place_clock.specs.Code.Clocking.{Accepted}
+use Rattle.fm3130_accept.specs.Admitted.{admitted}
+use Rattle.fm3130_image.specs.Code.Accepting.{is_image}
+use Rattle.fm3130_image.proofs.Accepts.{image_not_read}
 use Rattle.fm3130.specs.declared.State.{State}
 use Rattle.fm3130_image.specs.Image.{decode_of}
 use Rattle.fm3130_list.specs.Run.{run_of, all_known}
 use Rattle.lamps.specs.Step.{report_of}
 use Rattle.lamps.specs.Statement.{proven_by}
 use Rattle.lamps_bytes.specs.Kept.{kept_of, bytes_of, is_kept}
-use Rattle.c_lamps.specs.Run.{refused, written, seen, outcome_of, RanInImage}
+use Rattle.c_lamps.specs.Run.{refused, written, shown, seen, outcome_of, RanInImage}
 use Rattle.lamps.specs.declared.Proving.{Proving}
 
+-- bytes that hold a record, and bytes that hold none
+pub was_read : (t : Bool) (p r : Proving) → ok_or (then_some t p) WrongState ≡ Ok r → (t ≡ true) × (r ≡ p)
+was_read true p r e = (refl, cc)
+was_read false p r e = absurd cc
+
+pub unread : (t : Bool) (p : Proving) (r : Refusal) → ok_or (then_some t p) WrongState ≡ Err r → (t ≡ false) × (r ≡ WrongState)
+unread true p r e = absurd cc
+unread false p r e = (refl, cc)
+
+-- what was admitted, and what was not
+pub admitted_here : (i m : List ℕ) (x : Unit {0}) → admitted i m ≡ Ok x → Accepted i m
+admitted_here i m x e =
+    by_test (eqb (length m) memory_size)
+    (λ q. by_test (is_image i)
+    (λ w. record { image = w; memory = eqb-true (length m) memory_size q })
+    (λ w. let f : Err WrongState ≡ Ok x = rw (q, w) at e in cc))
+    (λ q. let f : Err WrongMemory ≡ Ok x = rw q at e in cc)
+
 module _ (i m es a b : List ℕ) where
-  pub wrong_memory_lem : (length m ≡ memory_size → ⊥) → outcome_of i m es a b ≡ refused wrong_memory i m a b
+  pub not_admitted : (r : Refusal) → admitted i m ≡ Err r → seen (shown (Err r)) i m a b ≡ outcome_of i m es a b
   unfolding outcome_of
-  wrong_memory_lem h = rw (ne_eqb (length m) memory_size h)
+  not_admitted r e =
+      by_test (eqb (length m) memory_size)
+      (λ q. by_test (is_image i)
+      (λ w. let f : Ok tt ≡ Err r = rw (q, w) at e in cc)
+      (λ w. let f : Err WrongState ≡ Err r = rw (q, w) at e in
+      let g : r ≡ WrongState = cc in rw (g, q, image_not_read i w)))
+      (λ q. let f : Err WrongMemory ≡ Err r = rw q at e in
+      let g : r ≡ WrongMemory = cc in rw (g, q))
 
   module _ (h : length m ≡ memory_size) where
-    pub wrong_image : decode_of i ≡ None → outcome_of i m es a b ≡ refused wrong_state i m a b
-    unfolding outcome_of
-    wrong_image d = rw (eq-eqb (length m) memory_size h, d)
-
     module _ (s : State) (d : decode_of i ≡ Some s) where
       pub wrong_kept : is_kept b ≡ false → outcome_of i m es a b ≡ refused wrong_state i m a b
       unfolding outcome_of

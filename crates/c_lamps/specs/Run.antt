@@ -1,8 +1,10 @@
 -- SPDX-License-Identifier: Apache-2.0
 -- The list run with the record: the device's list run (01), with the record's bytes stepped along and the report. Refusals
 -- in the order of 01's numbers; record bytes that hold no record are number 2. `LampsSettled` is the whole outcome.
-use Rattle.std.specs.Prelude.{ℕ, ◌≡◌, cond, List, leb, eqb, length, Option, Some, None}
+use Rattle.std.specs.Prelude.{ℕ, ◌≡◌, cond, List, leb, eqb, length, Option, Some, None, Result, Ok, Err}
 use Rattle.numbers.specs.Numbers.{accepted, wrong_memory, wrong_state, unknown_event, short_answers}
+use Rattle.numbers.specs.Refusal.{number_of}
+use Rattle.numbers.specs.declared.Refusal.{Refusal}
 use Rattle.fm3130.specs.Chip.{memory_size}
 use Rattle.fm3130.specs.declared.State.{State}
 use Rattle.fm3130_image.specs.Image.{image_of, decode_of}
@@ -55,6 +57,11 @@ outcome_of i m es a b =
 abbrev pub seen : Shown → List ℕ → List ℕ → List ℕ → List ℕ → Outcome
 seen r i m a b =
     record { number = r.number; report = r.report; image = i; memory = m; answers = a; kept = b }
+
+-- What a call returns: the report, or why it was refused, which is dark.
+abbrev pub shown : Result ℕ Refusal → Shown
+shown (Ok report) = record { number = accepted; report = report }
+shown (Err r) = record { number = number_of r; report = 0 }
 
 -- The contract of `fm3130_lamps`.
 abbrev pub LampsSettled : List ℕ → List ℕ → List ℕ → List ℕ → List ℕ → Shown → List ℕ → List ℕ → List ℕ → List ℕ → Type 0

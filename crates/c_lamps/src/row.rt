@@ -1,38 +1,29 @@
 // SPDX-License-Identifier: Apache-2.0
 // Clocks of one byte, up to its eighth: they leave the lamps as they are, so the device does them in a row. What the record
 // keeps of the byte under way is gathered from their answers.
-ghost use Rattle.std.specs.Prelude.{◌≡◌, true, false, ◌+◌, ◌<◌, ◌≤◌, length, take};
+ghost use Rattle.std.specs.Prelude.{◌≡◌, true, false, ◌+◌, ◌/◌, ◌<◌, ◌≤◌, eqb, length, take};
+ghost use Rattle.std.specs.List.{prefix_len};
 ghost use Rattle.fm3130_image.specs.Image.{candidate};
 ghost use Rattle.fm3130_image.specs.Code.Accepting.{is_image};
 ghost use Rattle.lamps.specs.Log.{clocks_of};
 ghost use Rattle.c_lamps.specs.Row.{Clocks, gathered_over, rowed_by};
 
+use bus_image::phases::READ_MEMORY;
 use bus_image::places::CLOCKS_AT;
 use lamps::Follower;
 
-// The lesser of a length and a number of Clocks.
-fn at_most(length: usize, most: u8) -> usize
-    ensures { (result ≤ length) × (result ≤ most) }
+// With how many Clocks a list begins.
+fn clocks_before(events: &[u8]) -> usize
+    ensures { result ≡ prefix_len (λ e. eqb (e / 2) 1) events.now }
 {
-    if length < most as usize {
-        return length;
-    }
-    most as usize
+    events.iter().take_while(|event| **event / 2 == 1).count()
 }
 
-// With how many Clocks a list begins, at most so many.
+// The same, at most so many.
 fn leading_clocks(events: &[u8], most: u8) -> usize
     ensures { (result ≤ length events.now) × (result ≤ most) × Clocks (take result events.now) }
 {
-    let end = at_most(events.len(), most);
-    let mut i = 0;
-    while i < end {
-        if events[i] / 2 != 1 {
-            return i;
-        }
-        i += 1;
-    }
-    i
+    clocks_before(&events[..events.len().min(usize::from(most))])
 }
 
 // How many events are done together: the Clocks that are left of a byte before its ninth, or one event. A refused byte has
@@ -44,17 +35,10 @@ pub(crate) fn part_length(image: &[u8], refused: bool, events: &[u8]) -> usize
         × (clocks_of (candidate image.now).phase + result ≤ 8)) }
 {
     let clocks = image[CLOCKS_AT];
-    if refused {
+    if refused || clocks > 6 {
         return 1;
     }
-    if clocks > 6 {
-        return 1;
-    }
-    let count = leading_clocks(events, 8 - clocks);
-    if count == 0 {
-        return 1;
-    }
-    count
+    leading_clocks(events, 8 - clocks).max(1)
 }
 
 // A byte read from the memory, gathered from the answers to some of its clocks.
@@ -63,14 +47,8 @@ fn gather_all(follower: Follower, clocks: u8, address: u16, answers: &[u8]) -> F
     ensures { result ≡ gathered_over clocks follower address answers.now }
 {
     let mut gathered = follower;
-    let mut done = clocks;
-    let mut i = 0;
-    while i < answers.len() {
-        let line = answers[i] % 2 == 1;
-        let more = gathered.gather(done, address, false, line);
-        gathered = more;
-        done += 1;
-        i += 1;
+    for (i, answer) in answers.iter().enumerate() {
+        gathered = gathered.gather(clocks + i as u8, address, false, answer % 2 == 1);
     }
     gathered
 }
@@ -88,17 +66,15 @@ pub(crate) fn after_row(
     requires { clocks + length answers.now ≤ 8 }
     ensures { result ≡ rowed_by number clocks follower address refused answers.now }
 {
-    if number != 7 {
+    if number != READ_MEMORY {
         return Follower {
-            refused: refused,
+            refused,
             place: 0,
             byte: 0,
         };
     }
-    let gathered = gather_all(follower, clocks, address, answers);
     Follower {
-        refused: refused,
-        place: gathered.place,
-        byte: gathered.byte,
+        refused,
+        ..gather_all(follower, clocks, address, answers)
     }
 }

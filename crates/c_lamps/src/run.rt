@@ -1,29 +1,36 @@
 // SPDX-License-Identifier: Apache-2.0
 // The list run with the record. The device lies in its image, and the list is done in parts.
-ghost use Rattle.std.specs.Prelude.{◌≡◌, true, ◌<◌, ◌≤◌, length};
+ghost use Rattle.std.specs.Prelude.{◌≡◌, true, not, ◌&&◌, ◌<◌, ◌≤◌, eqb, length};
 ghost use Rattle.fm3130.specs.Chip.{memory_size};
 ghost use Rattle.fm3130.specs.Limits.{well_formed};
 ghost use Rattle.fm3130_image.specs.Image.{candidate};
 ghost use Rattle.place_clock.specs.Code.Clocking.{Accepted};
 ghost use Rattle.fm3130_list.specs.Run.{all_known, RanThrough};
 ghost use Rattle.c_lamps.specs.Row.{Row, RowDone};
-ghost use Rattle.c_lamps.specs.Run.{RanWith, RanInImage, LampsSettled};
+ghost use Rattle.c_lamps.specs.Run.{RanWith, RanInImage, shown, LampsSettled};
 
 use crate::row::{after_row, part_length};
 use crate::{Reached, Shown};
 use bus_image::bytes::pair;
+use bus_image::phases::IDLE;
 use bus_image::places::{ADDRESS_HIGH_AT, ADDRESS_LOW_AT, CLOCKS_AT, PHASE_AT};
 use c_run::run::run_events;
 use fm3130::{Answered, State};
-use fm3130_accept::is_image;
-use fm3130_image::MEMORY;
+use fm3130_accept::admit;
 use fm3130_image::read::state_at;
 use fm3130_image::write::image_of;
 use fm3130_list::all_known;
 use lamps::{Follower, Proving};
-use lamps_bytes::{is_kept, read, write};
-use numbers::{ACCEPTED, SHORT_ANSWERS, UNKNOWN_EVENT, WRONG_MEMORY, WRONG_STATE};
+use lamps_bytes::{read, write};
+use numbers::{ACCEPTED, Refusal};
 use place_event::event::happen;
+
+// Whether a byte was refused: it was of a transfer, has all eight clocks done, and the transfer has ended.
+fn is_refused(number: u8, done: usize, next: u8) -> bool
+    ensures { result ≡ ((not (eqb number 0) && eqb done 8) && eqb next 0) }
+{
+    number != IDLE && done == 8 && next == IDLE
+}
 
 // Clocks of one byte, and what the record keeps of it.
 fn row(
@@ -43,9 +50,8 @@ fn row(
     let clocks = image[CLOCKS_AT];
     let address = pair(image[ADDRESS_HIGH_AT], image[ADDRESS_LOW_AT]);
     run_events(image, memory, events, answers);
-    let next = image[PHASE_AT];
-    let done = clocks as usize + events.len();
-    let refused = (number != 0) & (done == 8) & (next == 0);
+    let done = usize::from(clocks) + events.len();
+    let refused = is_refused(number, done, image[PHASE_AT]);
     after_row(follower, number, clocks, address, refused, answers)
 }
 
@@ -66,12 +72,8 @@ fn one(
     let event = events[0];
     let answer = happen(image, memory, event);
     answers[0] = answer;
-    let after = state_at(image);
-    let done = Answered {
-        state: after,
-        answer: answer,
-    };
-    proving.step(before, event, done)
+    let state = state_at(image);
+    proving.step(before, event, Answered { state, answer })
 }
 
 // A part of the list.
@@ -91,12 +93,9 @@ fn part(
     if events.len() == 1 {
         return one(image, memory, events, answers, proving);
     }
-    let before = proving.follower;
-    let lamps = proving.lamps;
-    let after = row(image, memory, events, answers, before);
     Proving {
-        follower: after,
-        lamps: lamps,
+        follower: row(image, memory, events, answers, proving.follower),
+        ..proving
     }
 }
 
@@ -115,12 +114,10 @@ fn follow_in_parts(
 {
     let mut kept = proving;
     let mut i = 0;
+    // Stays (plain): each part's length is told by the image that the parts before it left, so no `for` can count it
     while i < events.len() {
-        let follower = kept.follower;
-        let long = part_length(image, follower.refused, &events[i..]);
-        let end = i + long;
-        let stepped = part(image, memory, &events[i..end], &mut answers[i..end], kept);
-        kept = stepped;
+        let end = i + part_length(image, kept.follower.refused, &events[i..]);
+        kept = part(image, memory, &events[i..end], &mut answers[i..end], kept);
         i = end;
     }
     kept
@@ -140,25 +137,53 @@ fn follow_events(
         result memory.new answers.new }
 {
     let mut image = image_of(state);
-    let stepped = follow_in_parts(&mut image, memory, events, answers, proving);
-    Reached {
-        state: state_at(&image),
-        proving: stepped,
-    }
+    let proving = follow_in_parts(&mut image, memory, events, answers, proving);
+    let state = state_at(&image);
+    Reached { state, proving }
 }
 
-// What a refused call returns: all dark, so that a caller who looks at the report alone shows no lamp.
-fn refuse(number: u8) -> Shown
-    ensures { result ≡ record { number = number; report = 0 } }
+// What a call returns. A refused one shows all dark, so that a caller who looks at the report alone shows no lamp.
+fn shown(outcome: Result<u8, Refusal>) -> Shown
+    ensures { result ≡ shown outcome }
 {
-    Shown {
-        number: number as u64,
-        report: 0,
+    match outcome {
+        Ok(report) => Shown {
+            number: u64::from(ACCEPTED),
+            report: u64::from(report),
+        },
+        Err(refusal) => Shown {
+            number: u64::from(refusal.number()),
+            report: 0,
+        },
     }
 }
 
 // The list run with the record: refused by the first number that fits, with nothing written; or every event done, its
 // answer, the image and the record's bytes written, and the report returned.
+fn run_lamps(
+    image: &mut [u8],
+    memory: &mut [u8],
+    events: &[u8],
+    answers: &mut [u8],
+    kept: &mut [u8],
+) -> Result<u8, Refusal>
+    ensures { LampsSettled image.old memory.old events.now answers.old
+        kept.old (shown result) image.new memory.new answers.new kept.new }
+{
+    admit(image, memory)?;
+    let proving = read(kept).ok_or(Refusal::WrongState)?;
+    if !all_known(events) {
+        return Err(Refusal::UnknownEvent);
+    }
+    if answers.len() < events.len() {
+        return Err(Refusal::ShortAnswers);
+    }
+    let stepped = follow_in_parts(image, memory, events, answers, proving);
+    write(stepped, kept);
+    Ok(stepped.report())
+}
+
+// The same for C.
 #[unsafe(no_mangle)]
 pub extern "C" fn fm3130_lamps(
     image: &mut [u8],
@@ -170,26 +195,5 @@ pub extern "C" fn fm3130_lamps(
     ensures { LampsSettled image.old memory.old events.now answers.old
         kept.old result image.new memory.new answers.new kept.new }
 {
-    if memory.len() != MEMORY {
-        return refuse(WRONG_MEMORY);
-    }
-    if !is_image(image) {
-        return refuse(WRONG_STATE);
-    }
-    if !is_kept(kept) {
-        return refuse(WRONG_STATE);
-    }
-    if !all_known(events) {
-        return refuse(UNKNOWN_EVENT);
-    }
-    if answers.len() < events.len() {
-        return refuse(SHORT_ANSWERS);
-    }
-    let proving = read(kept);
-    let stepped = follow_in_parts(image, memory, events, answers, proving);
-    write(stepped, kept);
-    Shown {
-        number: ACCEPTED as u64,
-        report: stepped.report() as u64,
-    }
+    shown(run_lamps(image, memory, events, answers, kept))
 }

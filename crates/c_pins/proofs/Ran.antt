@@ -1,14 +1,15 @@
 -- SPDX-License-Identifier: Apache-2.0
 -- Events on image and memory, one after the other.
-use Prim.Native.Nat.{ℕ, ◌<◌, ◌≤◌}
+use Prim.Native.Nat.{ℕ, ◌+◌, ◌<◌, ◌≤◌}
 use mathlib.Core.Path.{◌≡◌, refl, sym, ap, ◌∙◌}
 use mathlib.Core.Bool.{Bool, true, false, false≢true}
-use mathlib.Core.List.{List, [], ◌∷◌, ◌++◌}
+use mathlib.Core.List.{List, [], ◌∷◌, ◌++◌, append-nil, append_assoc}
 use lib.Dec.{eqb}
-use lib.ListN.{length, get_or}
+use lib.ListN.{length, get_or, take}
 use native.Mathlib.Omega.{arith}
 use borrow.Author.Tests.{le-ltb, lt-ltb}
 use Rattle.std.specs.Prelude.{Option, Some, None}
+use Rattle.std.proofs.lemmas.List.{take_more}
 use Rattle.wire.proofs.Tests.{by_test}
 use Rattle.wire.specs.declared.Side.TheVariants.{Memory, Companion}
 use Rattle.wire.specs.declared.Phase.{Phase}
@@ -98,6 +99,29 @@ unfolding known ran
 once_done i m e r i' m' h a =
     let l : e < 8 = omega arith in
     rw (lt-ltb e 8 l) (record { image = a.image; memory = a.memory })
+
+-- those of the eight among some events
+abbrev pub knowns : List ℕ → List ℕ
+knowns [] = []
+knowns (e ∷ es) = known e ++ knowns es
+
+knowns_append : (xs ys : List ℕ) → knowns (xs ++ ys) ≡ knowns xs ++ knowns ys
+knowns_append [] ys = refl
+knowns_append (e ∷ xs) ys = ap (λ (l : List ℕ). known e ++ l) (knowns_append xs ys) ∙ sym (append_assoc (known e) (knowns xs) (knowns ys))
+
+-- none of them yet; one more
+pub ran_none : (i m : List ℕ) → Accepted i m → RanOn i m [] i m
+unfolding ran
+ran_none i m a = record { image = sym (image_written i a.image); memory = refl }
+
+pub ran_more : (i m xs i' m' i'' m'' : List ℕ) (k : ℕ) → k < length xs → RanOn i m (knowns (take k xs)) i' m'
+    → RanOn i' m' (known (get_or xs k 0)) i'' m'' → RanOn i m (knowns (take (k + 1) xs)) i'' m''
+ran_more i m xs i' m' i'' m'' k h r q =
+    let e : knowns (take (k + 1) xs) ≡ knowns (take k xs) ++ known (get_or xs k 0) =
+    ap knowns (take_more xs k 0 h)
+    ∙ knowns_append (take k xs) (get_or xs k 0 ∷ [])
+    ∙ ap (λ (l : List ℕ). knowns (take k xs) ++ l) (append-nil (known (get_or xs k 0))) in
+    rw e (ran_join i m _ i' m' _ i'' m'' r q)
 
 -- the image's clocks
 phase_clocks : (p : Phase) → eqb (transfer_of p).clocks 7 ≡ is_eighth p

@@ -15,7 +15,13 @@ use Rattle.fm3130_image.specs.Code.Accepting.{is_image}
 use Rattle.fm3130_image.proofs.Accepts.{image_read, image_not_read}
 use Rattle.c_line.specs.Line.{pulls_of, told_by}
 use Rattle.c_line.specs.Code.Line.{pulls_with}
-use Rattle.numbers.specs.Numbers.{wrong_memory, wrong_state}
+use Rattle.std.proofs.Common.{Ok, Err}
+use Rattle.wire.proofs.Tests.{by_test}
+use Rattle.numbers.specs.Numbers.{wrong_memory}
+use Rattle.numbers.specs.Refusal.{number_of}
+use Rattle.numbers.specs.declared.Refusal.{Refusal}
+use Rattle.numbers.specs.declared.Refusal.TheVariants.{WrongMemory, WrongState}
+use Rattle.fm3130_accept.specs.Admitted.{admitted}
 use Rattle.pins_levels.specs.Look.{left, first_of, asks, events_of}
 use Rattle.pins_levels.specs.Session.{asked}
 use Rattle.pins_levels.specs.declared.Seen.{Seen}
@@ -49,14 +55,18 @@ line_asked i m t n k e q =
 
 -- the first look
 module _ (i m : List ℕ) (v : Seen) (t r : Token) (e : t ≡ first_of v) where
-  pub begin_memory : (length m ≡ memory_size → ⊥) → r ≡ left t wrong_memory → r ≡ begin_of i m v
+  pub begin_refused : (x : Refusal) → admitted i m ≡ Err x → r ≡ left t (number_of x) → r ≡ begin_of i m v
   unfolding begin_of
-  begin_memory h q = rw (ne_eqb (length m) memory_size h) (q ∙ ap (λ (x : Token). left x wrong_memory) e)
-
-  pub begin_image : length m ≡ memory_size → is_image i ≡ false → r ≡ left t wrong_state → r ≡ begin_of i m v
-  unfolding begin_of
-  begin_image h k q =
-      rw (eq-eqb (length m) memory_size h, image_not_read i k) (q ∙ ap (λ (x : Token). left x wrong_state) e)
+  begin_refused x f q =
+      by_test (eqb (length m) memory_size)
+      (λ h. by_test (is_image i)
+      (λ k. let z : Ok tt ≡ Err x = rw (h, k) at f in cc)
+      (λ k. let z : Err WrongState ≡ Err x = rw (h, k) at f in
+      let g : x ≡ WrongState = cc in
+      rw (h, image_not_read i k) (rw (g, e) at q)))
+      (λ h. let z : Err WrongMemory ≡ Err x = rw h at f in
+      let g : x ≡ WrongMemory = cc in
+      rw h (rw (g, e) at q))
 
   pub begin_done : length m ≡ memory_size → is_image i ≡ true → r ≡ asked fm3130_on t (held (candidate i) m) → r ≡ begin_of i m v
   unfolding begin_of
@@ -82,15 +92,20 @@ module _ (i m : List ℕ) (d : Due) where
     settle_idle h = settle_on (outcome d.token i m) (rw h)
 
     module _ (h : is_idle d ≡ false) (r : Token) where
-      pub settle_memory : (length m ≡ memory_size → ⊥) → r ≡ left d.token wrong_memory → outcome r i m ≡ settle_of i m d
-      settle_memory k q =
-          settle_on (outcome r i m) (rw (h, ne_eqb (length m) memory_size k) (ap (λ (x : Token). outcome x i m) q))
-
-      pub settle_image : length m ≡ memory_size → is_image i ≡ false → r ≡ left d.token wrong_state
+      pub settle_refused : (x : Refusal) → admitted i m ≡ Err x → r ≡ left d.token (number_of x)
           → outcome r i m ≡ settle_of i m d
-      settle_image k l q =
-          settle_on (outcome r i m)
-          (rw (h, eq-eqb (length m) memory_size k, image_not_read i l) (ap (λ (x : Token). outcome x i m) q))
+      settle_refused x f q =
+          by_test (eqb (length m) memory_size)
+          (λ k. by_test (is_image i)
+          (λ l. let z : Ok tt ≡ Err x = rw (k, l) at f in cc)
+          (λ l. let z : Err WrongState ≡ Err x = rw (k, l) at f in
+          let g : x ≡ WrongState = cc in
+          let p = rw g at q in
+          settle_on (outcome r i m) (rw (h, k, image_not_read i l) (ap (λ (y : Token). outcome y i m) p))))
+          (λ k. let z : Err WrongMemory ≡ Err x = rw k at f in
+          let g : x ≡ WrongMemory = cc in
+          let p = rw g at q in
+          settle_on (outcome r i m) (rw (h, k) (ap (λ (y : Token). outcome y i m) p)))
 
       pub settle_done : (i' m' : List ℕ) → Accepted i m → RanOn i m (events_of d) i' m'
           → r ≡ asked fm3130_on d.token (held (candidate i') m') → outcome r i' m' ≡ settle_of i m d

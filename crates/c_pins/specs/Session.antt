@@ -13,7 +13,7 @@ use Rattle.fm3130.specs.Limits.{well_formed}
 use Rattle.fm3130.specs.declared.State.{State}
 use Rattle.fm3130_image.specs.Image.{image_of, decode_of}
 use Rattle.numbers.specs.Numbers.{wrong_memory, wrong_state}
-use Rattle.fm3130_list.specs.Run.{run_of, answer_to}
+use Rattle.fm3130_list.specs.Run.{run_of}
 use Rattle.c_line.specs.Line.{pulls, pulls_after}
 use Rattle.c_line.specs.Wires.{is_eighth}
 use Rattle.pins_levels.specs.Wave.{spelt, clock_of}

@@ -24,26 +24,17 @@ pub extern "C" fn fm3130_pins_begin(image: &[u8], memory: &[u8], seen: u64) -> u
 pub extern "C" fn fm3130_pins_look(word: u64, seen: u64) -> u64
     ensures { LookSettled word seen result }
 {
-    let d = unpack(word);
-    let t = d.token;
-    pack(look(t, levels(seen)))
+    pack(look(unpack(word).token, levels(seen)))
 }
 
 #[unsafe(no_mangle)]
 pub extern "C" fn fm3130_pins_driven(before: u64, word: u64, scl: u64) -> u64
     ensures { DrivenSettled before word scl result }
 {
-    let b = unpack(before);
-    let s = b.token;
-    let d = unpack(word);
-    let t = d.token;
-    let token = driven(s.pulling, t, scl % 2 == 1, scl / 2 % 2 == 1);
-    pack(Due {
-        token: token,
-        first: d.first,
-        second: d.second,
-        third: d.third,
-    })
+    let pulled = unpack(before).token.pulling;
+    let due = unpack(word);
+    let token = driven(pulled, due.token, scl % 2 == 1, scl / 2 % 2 == 1);
+    pack(Due { token, ..due })
 }
 
 #[unsafe(no_mangle)]
@@ -57,17 +48,12 @@ pub extern "C" fn fm3130_pins_settle(image: &mut [u8], memory: &mut [u8], word: 
 fn event_of(event: u64) -> u8
     ensures { result ≡ event_of_word event }
 {
-    if event > 7 {
-        return 8;
-    }
-    event as u8
+    event.min(8) as u8
 }
 
 #[unsafe(no_mangle)]
 pub extern "C" fn fm3130_pins_hand(image: &[u8], word: u64, event: u64) -> u64
     ensures { HandSettled image.now word event result }
 {
-    let d = unpack(word);
-    let t = d.token;
-    pack(due(image, t, event_of(event)))
+    pack(due(image, unpack(word).token, event_of(event)))
 }

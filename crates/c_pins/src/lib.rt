@@ -5,20 +5,18 @@
 
 pub mod entries;
 
-ghost use Rattle.std.specs.Prelude.{◌≡◌, ◌++◌, length};
+ghost use Rattle.std.specs.Prelude.{◌≡◌, length};
 ghost use Rattle.place_clock.specs.Code.Clocking.{Accepted};
 ghost use Rattle.fm3130_image.specs.Image.{candidate};
-ghost use Rattle.pins_levels.specs.Look.{known, hand_of};
+ghost use Rattle.pins_levels.specs.Look.{known, events_of, hand_of};
 ghost use Rattle.pins_levels.specs.Session.{asked};
 ghost use Rattle.c_pins.specs.Chip.{held, fm3130_on, RanOn};
 ghost use Rattle.c_pins.specs.Entry.{is_idle, eighth_in, SettledAs, begin_of};
 
 use bus_image::places::CLOCKS_AT;
 use c_line::pulls_of;
-use fm3130_accept::is_image;
-use fm3130_image::MEMORY;
-use numbers::{WRONG_MEMORY, WRONG_STATE};
-use pins_levels::{Due, Seen, Token, asked, first, hand, leave};
+use fm3130_accept::admit;
+use pins_levels::{Due, NONE, Seen, Token, asked, first, hand, leave};
 use place_event::event::{happen, lined, shown};
 
 // One event of the eight, or none.
@@ -26,20 +24,19 @@ fn once(image: &mut [u8], memory: &mut [u8], event: u8)
     requires { Accepted image.old memory.old }
     ensures { RanOn image.old memory.old (known event) image.new memory.new }
 {
-    if event > 7 {
-        return;
+    if event < NONE {
+        happen(image, memory, event);
     }
-    happen(image, memory, event);
 }
 
-// Up to three events.
-fn thrice(image: &mut [u8], memory: &mut [u8], a: u8, b: u8, c: u8)
+// What is due, one after the other.
+fn happen_all(image: &mut [u8], memory: &mut [u8], d: Due)
     requires { Accepted image.old memory.old }
-    ensures { RanOn image.old memory.old (known a ++ (known b ++ known c)) image.new memory.new }
+    ensures { RanOn image.old memory.old (events_of d) image.new memory.new }
 {
-    once(image, memory, a);
-    once(image, memory, b);
-    once(image, memory, c);
+    for event in [d.first, d.second, d.third] {
+        once(image, memory, event);
+    }
 }
 
 // The lines of the next Clocks, and what the ACS pin shows.
@@ -61,7 +58,7 @@ fn ask(image: &[u8], memory: &[u8], t: Token) -> Token
 fn is_idle(d: Due) -> bool
     ensures { result ≡ is_idle d }
 {
-    (d.first > 7) & (d.second > 7) & (d.third > 7)
+    d.first >= NONE && d.second >= NONE && d.third >= NONE
 }
 
 // What is due is done, in its order, and the lines are asked. Refused by the numbers 1 and 2: the device leaves the bus, and
@@ -70,19 +67,13 @@ pub(crate) fn settle(image: &mut [u8], memory: &mut [u8], d: Due) -> Token
     ensures { SettledAs image.old memory.old d result image.new memory.new }
 {
     let t = d.token;
-    if t.number != 0 {
+    if t.number != 0 || is_idle(d) {
         return t;
     }
-    if is_idle(d) {
-        return t;
+    if let Err(refusal) = admit(image, memory) {
+        return leave(t, refusal.number());
     }
-    if memory.len() != MEMORY {
-        return leave(t, WRONG_MEMORY);
-    }
-    if !is_image(image) {
-        return leave(t, WRONG_STATE);
-    }
-    thrice(image, memory, d.first, d.second, d.third);
+    happen_all(image, memory, d);
     ask(image, memory, t)
 }
 
@@ -91,23 +82,17 @@ pub(crate) fn begin(image: &[u8], memory: &[u8], v: Seen) -> Token
     ensures { result ≡ begin_of image.now memory.now v }
 {
     let t = first(v);
-    if memory.len() != MEMORY {
-        return leave(t, WRONG_MEMORY);
+    match admit(image, memory) {
+        Ok(()) => ask(image, memory, t),
+        Err(refusal) => leave(t, refusal.number()),
     }
-    if !is_image(image) {
-        return leave(t, WRONG_STATE);
-    }
-    ask(image, memory, t)
 }
 
 // Whether the next Clock is a byte's eighth, by the image's clocks.
 fn eighth(image: &[u8]) -> bool
     ensures { result ≡ eighth_in image.now }
 {
-    if image.len() > 27 {
-        return image[CLOCKS_AT] == 7;
-    }
-    false
+    image.get(CLOCKS_AT).is_some_and(|clocks| *clocks == 7)
 }
 
 // A tick or a power event is handed in; what is due by that is left to `settle`.

@@ -12,13 +12,12 @@ use Rattle.c_lamps.proofs.run.one.Goals as goal
 pub state_at-before-requires : goal.state_at-before-requires
 state_at-before-requires c = let s = c in image_long _ s.requires.accepted.image
 
-pub happen-answer-requires : goal.happen-answer-requires
-happen-answer-requires c =
-    let s = c in
-    record { accepted = s.requires.accepted; event_bound = known_at s.args.events.now s.requires.events_value.0 0 (omega (arith, s.requires.events_value.2)) }
+pub happen-answer-requires-clause-event_bound : goal.happen-answer-requires-clause-event_bound
+happen-answer-requires-clause-event_bound c =
+    known_at c.args.events.now c.requires.events_value.0 0 (omega (arith, c.requires.events_value.2))
 
-pub state_at-after-requires : goal.state_at-after-requires
-state_at-after-requires c = let d = c.happen-answer.ensures in ap length d.image ∙ image_length _
+pub state_at-state-requires : goal.state_at-state-requires
+state_at-state-requires c = let d = c.happen-answer.ensures in ap length d.image ∙ image_length _
 
 pub returns : goal.returns
 returns c =
@@ -26,4 +25,4 @@ returns c =
     let s = at11 in
     let d = c.happen-answer.ensures in
     one_ran _ s.args.proving _ _ _ _ _ _ _ s.requires.events_value.2 (s.requires.events_value.1 ∙ s.requires.events_value.2) d
-    (rw (at11.state_at-before.ensures, c.state_at-after.ensures) at c.step.ensures)
+    (rw (at11.state_at-before.ensures, c.state_at-state.ensures) at c.step.ensures)

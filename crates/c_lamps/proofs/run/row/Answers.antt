@@ -31,14 +31,6 @@ bounds-image-26-2 c =
     let n = ap length d.image ∙ image_length _ in
     omega (arith, n)
 
-pub overflow_cast-done : goal.overflow_cast-done
-overflow_cast-done c =
-    let s = c in
-    record { fits = omega (arith, clocks_lain _ s.requires.accepted.image, s.requires.row.few) }
-
-pub overflow_add-done : goal.overflow_add-done
-overflow_add-done c = let s = c in omega (arith, clocks_lain _ s.requires.accepted.image, s.requires.row.few)
-
 pub after_row-requires : goal.after_row-requires
 after_row-requires c =
     let s = c in
@@ -49,4 +41,4 @@ pub returns : goal.returns
 returns c =
     let s = c in
     row_done _ _ _ _ _ _ _ s.args.follower _ s.requires.accepted.image s.requires.events_value.1 c.run_events.ensures s.requires.row
-    (rw c.pair-address.ensures at c.after_row.ensures)
+    (rw (c.pair-address.ensures, c.is_refused-refused.ensures, c.from.ensures) at c.after_row.ensures)
