@@ -20,7 +20,7 @@ use Rattle.fm3130_list.specs.Run.{all_known}
 use Rattle.capture_table.specs.Table.{word_at, entry_at, overlap, is_accepted, body_of, stands_in, uneven, clashes, clashes_below, is_sound}
 use Rattle.capture_table.specs.Sections.{first_faulty}
 use Rattle.capture_table.specs.declared.Entry.{Entry}
-use Rattle.capture_table.proofs.Sound.{or_split}
+use Rattle.capture_table.proofs.Sound.{or_split, by_fault}
 use Rattle.c_judge.specs.Verdict.{limit, verdict_of, compared, right_answers}
 use Rattle.c_judge.specs.Faults.{kind, offset, size, body, EachKnown, Faultless, SoundExactly, FaultFirst, TooLongExactly}
 use Rattle.c_judge.specs.declared.Verdict.TheVariants.{Differs, Faulty, TooLong}
@@ -194,8 +194,7 @@ sound_exactly f n = (sound_faultless f n, faultless_sound f n)
 -- the verdict by the number of the first faulty entry
 record Named (f : List ℕ) (n : ℕ) : Type 0 where
   pub first : ℕ
-  pub is : first_faulty f ≡ first
-  pub some : first ≡ 0 → ⊥
+  pub is : first_faulty f ≡ Some first
   pub up_to : first ≤ n + 1
 
 named : (f : List ℕ) (n : ℕ) → n < 4 → is_sound f n ≡ false → Named f n
@@ -206,10 +205,10 @@ named f n l h =
     (λ b. by_test (is_sound f 2)
     (λ c. by_test (is_sound f 3)
     (λ d. absurd (false≢true (sym h ∙ all a b c d n l)))
-    (λ d. record { first = 4; is = rw (a, b, c, d); some = λ z. omega arith; up_to = after3 a b c n l h }))
-    (λ c. record { first = 3; is = rw (a, b, c); some = λ z. omega arith; up_to = after2 a b n l h }))
-    (λ b. record { first = 2; is = rw (a, b); some = λ z. omega arith; up_to = after1 a n h }))
-    (λ a. record { first = 1; is = rw a; some = λ z. omega arith; up_to = omega arith })
+    (λ d. record { first = 4; is = rw (a, b, c, d); up_to = after3 a b c n l h }))
+    (λ c. record { first = 3; is = rw (a, b, c); up_to = after2 a b n l h }))
+    (λ b. record { first = 2; is = rw (a, b); up_to = after1 a n h }))
+    (λ a. record { first = 1; is = rw a; up_to = omega arith })
   where
     after1 : is_sound f 0 ≡ true → (n : ℕ) → is_sound f n ≡ false → 2 ≤ n + 1
     after1 a zero h = absurd (false≢true (sym h ∙ a))
@@ -239,7 +238,7 @@ unfolding verdict_of
 fault_first f n short l h =
     let w = named f n l h in (
       w.first,
-      rw (le-leb (length f) 61440 short, w.is, ne_eqb w.first 0 w.some),
+      rw (le-leb (length f) 61440 short, w.is),
       w.up_to,
     )
 
@@ -259,8 +258,8 @@ too_long_exactly f = (is_long, λ h. rw (lt-leb (length f) 61440 h))
     is_long : verdict_of f ≡ TooLong → 61440 < length f
     is_long e =
         by_test (leb (length f) limit)
-        (λ t. by_test (eqb (first_faulty f) 0)
+        (λ t. by_fault (first_faulty f)
         (λ u. absurd (compared_short 0 (right_answers f) _ (rw (t, u) at e)))
-        (λ u. let d : Faulty (first_faulty f) ≡ TooLong = rw (t, u) at e in
+        (λ k u. let d : Faulty k ≡ TooLong = rw (t, u) at e in
         absurd (let z : ◌≡◌ {A = ℕ} 0 1 = cc in omega arith)))
         (λ t. leb-false (length f) limit t)

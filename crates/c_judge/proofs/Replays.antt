@@ -1,7 +1,7 @@
 -- SPDX-License-Identifier: Apache-2.0
 -- The replay: a byte read through a reader, one answer beside another, a stretch of events more, and at the end. What is
 -- left of the events, compared from here, gives the whole verdict.
-use Prim.Native.Nat.{ℕ, zero, suc, ◌+◌, ◌≤◌, ◌<◌}
+use Prim.Native.Nat.{ℕ, suc, ◌+◌, ◌≤◌, ◌<◌}
 use mathlib.Core.Path.{◌≡◌, refl, sym, ap, ◌∙◌}
 use mathlib.Core.Bool.{true, false, cond, false≢true}
 use mathlib.Core.List.{List, [], ◌∷◌, ◌++◌}
@@ -9,13 +9,13 @@ use native.Mathlib.Omega.{arith}
 use native.Mathlib.Numerals.{add-one}
 use lib.Dec.{eqb}
 use lib.ListN.{length, take, drop, get_or, replicate, length-replicate, length-drop, drop_of_length-le, take-append-drop}
-use lib.Seq.{drop-cons, length-take-le, get_or-take, get_or-drop, take-take, drop-drop}
+use lib.Seq.{drop-cons, length-take-le, get_or-take, get_or-drop, drop-drop}
 use borrow.Author.Tests.{eq-eqb, ne_eqb, lt-ltb}
 use Rattle.wire.proofs.Tests.{by_test, and_split}
 use Rattle.fm3130.specs.Chip.{memory_size}
 use Rattle.fm3130.specs.Limits.{well_formed}
 use Rattle.fm3130.specs.declared.State.{State}
-use Rattle.fm3130_image.specs.Image.{image_of, candidate}
+use Rattle.fm3130_image.specs.Image.{candidate}
 use Rattle.place_clock.specs.Code.Clocking.{Accepted}
 use Rattle.place_rows.proofs.Ledger.{image_accepted, lies}
 use Rattle.fm3130_list.specs.Run.{Ended, run_of, RanThrough, all_known}
@@ -34,16 +34,6 @@ part_length f p n h = length-take-le n (drop p f) (simp length-drop (omega arith
 -- a section's bytes, and a part of them
 abbrev pub section : List ℕ → ℕ → ℕ → List ℕ
 section f from count = take count (drop from f)
-
-part_of_part : (i n count : ℕ) (xs : List ℕ) → i + n ≤ count → take n (drop i (take count xs)) ≡ take n (drop i xs)
-part_of_part zero n count xs h = take-take n count xs (omega arith)
-part_of_part (suc i) n zero xs h = absurd (omega arith)
-part_of_part (suc i) n (suc count) [] h = refl
-part_of_part (suc i) n (suc count) (x ∷ xs) h = part_of_part i n count xs (omega arith)
-
-pub section_part : (f : List ℕ) (from count i n : ℕ) → i + n ≤ count
-    → take n (drop i (section f from count)) ≡ section f (from + i) n
-section_part f from count i n h = part_of_part i n count (drop from f) h ∙ ap (λ (l : List ℕ). take n l) (drop-drop i from f)
 
 -- the byte of a section that was read through a reader, and the place after
 module _ (f : List ℕ) (from count i q : ℕ) (t : Taken) (e : t ≡ taken_at f q) (p : q ≡ from + i) (h : i < count) where
@@ -197,49 +187,26 @@ part_known i n es k h =
     (and_split (all_known (take n (drop i es))) (all_known (drop n (drop i es)))
     (sym (known_append (take n (drop i es)) (drop n (drop i es))) ∙ ap all_known (take-append-drop n (drop i es)) ∙ front.1)).0
 
--- a stretch of a section, judged: where it does not agree, that is what is left of the verdict; where it does, what is left
--- of the verdict stays, from the state that lies in the image after it
-module _ (f : List ℕ) (events answers count : ℕ) (he : events + count ≤ length f) (ha : answers + count ≤ length f)
-    (s : State) (m : List ℕ) (i n : ℕ) (h : i + n ≤ count) (v : Verdict) (i' m' : List ℕ)
-    (j : Judged s m (section f (events + i) n) (section f (answers + i) n) i v i' m') where
-  abbrev es : List ℕ
-  es = section f events count
-
-  abbrev bs : List ℕ
-  bs = section f answers count
-
+-- a stretch, judged: where it does not agree, that is what is left of the verdict; where it does, what is left of the
+-- verdict stays, from the state that lies in the image after it
+module _ (es bs : List ℕ) (same : length bs ≡ length es) (s : State) (m : List ℕ) (i n : ℕ) (h : i + n ≤ length es)
+    (v : Verdict) (i' m' : List ℕ) (j : Judged s m (take n (drop i es)) (take n (drop i bs)) i v i' m') where
   abbrev done : Ended
   done = run_of s m (take n (drop i es))
 
-  of_events : section f (events + i) n ≡ take n (drop i es)
-  of_events = sym (section_part f events count i n h)
-
-  told_of_lem : v ≡ compared i done.answers (take n (drop i bs))
-  told_of_lem =
-      j.told
-      ∙ (λ k. compared i (run_of s m (of_events k)).answers (sym (section_part f answers count i n h) k))
-
   turned : left s m es bs i ≡ onward v (left done.state done.memory es bs (i + n))
   turned =
-      let a = part_length f events count he in
-      let b = part_length f answers count ha in
-      left_turn s m es bs i n (omega arith) (omega arith)
-      ∙ ap (λ (x : Verdict). onward x (left done.state done.memory es bs (i + n))) (sym told_of_lem)
+      left_turn s m es bs i n h (omega arith)
+      ∙ ap (λ (x : Verdict). onward x (left done.state done.memory es bs (i + n))) (sym j.told)
 
   pub stretch_not : is_agreed v ≡ false → v ≡ left s m es bs i
   stretch_not t = sym (turned ∙ onward_not v _ t)
 
-  lain : i' ≡ image_of done.state
-  lain = j.image ∙ ap (λ (l : List ℕ). image_of (run_of s m l).state) of_events
-
-  stored : m' ≡ done.memory
-  stored = j.memory ∙ ap (λ (l : List ℕ). (run_of s m l).memory) of_events
-
   pub stretch_agreed : is_agreed v ≡ true → left (candidate i') m' es bs (i + n) ≡ left s m es bs i
   stretch_agreed t =
-      (λ k. left (lies i' done.state lain k) (stored k) es bs (i + n)) ∙ sym (turned ∙ onward_agreed v _ t)
+      (λ k. left (lies i' done.state j.image k) (j.memory k) es bs (i + n)) ∙ sym (turned ∙ onward_agreed v _ t)
 
   pub stretch_accepted : well_formed s ≡ true → length m ≡ memory_size → Accepted i' m'
   stretch_accepted w l =
       let o = run_ok s m (take n (drop i es)) w l in
-      record { image = image_accepted i' done.state lain o.state; memory = ap length stored ∙ o.memory }
+      record { image = image_accepted i' done.state j.image o.state; memory = ap length j.memory ∙ o.memory }

@@ -1,28 +1,28 @@
 -- SPDX-License-Identifier: Apache-2.0
 -- No second verdict has the figures of a verdict. Then the ways through the judge's tests, and that the replay of what
 -- is found in a sound file is the verdict on it.
-use Prim.Native.Nat.{ℕ, ◌+◌, ◌≤◌, ◌<◌}
+use Prim.Native.Nat.{ℕ, ◌≤◌, ◌<◌}
 use mathlib.Core.Path.{◌≡◌, refl, sym, ap, ◌∙◌}
-use mathlib.Core.Bool.{true, false, cond, false≢true}
+use mathlib.Core.Bool.{true, cond, false≢true}
 use mathlib.Core.List.{List}
 use native.Mathlib.Omega.{arith}
 use lib.Dec.{eqb}
-use lib.ListN.{length, take, drop}
-use borrow.Author.Tests.{le-leb, lt-leb, eq-eqb, ne_eqb, eqb-true}
-use Rattle.std.specs.Prelude.{None, is_some}
+use lib.ListN.{length}
+use borrow.Author.Tests.{le-leb, lt-leb, eqb-true}
+use Rattle.std.specs.Prelude.{Option, None, is_some}
 use Rattle.wire.proofs.Tests.{by_test}
 use Rattle.fm3130.specs.Chip.{memory_size}
-use Rattle.fm3130_image.specs.Image.{candidate, decode_of}
-use Rattle.fm3130_list.specs.Run.{run_of, all_known}
+use Rattle.fm3130_image.specs.Image.{decode_of}
+use Rattle.fm3130_list.specs.Run.{all_known}
 use Rattle.fm3130_image.specs.Code.Accepting.{is_image}
 use Rattle.fm3130_image.proofs.Accepts.{image_not_read}
-use Rattle.capture_table.specs.Table.{body_of, is_accepted, image_kind, memory_kind, events_kind, answers_kind}
+use Rattle.capture_table.specs.Table.{is_accepted, image_kind, memory_kind, events_kind, answers_kind}
 use Rattle.capture_table.specs.Sections.{first_faulty, entry_of, section_of}
-use Rattle.capture_table.specs.declared.Entry.{Entry}
 use Rattle.capture_table.proofs.Sound.{sound_of}
 use Rattle.capture_table.proofs.Finding.{even, accepted, inside}
-use Rattle.c_judge.specs.Verdict.{limit, figures_of, compared, right_answers, verdict_of}
+use Rattle.c_judge.specs.Verdict.{limit, figures_of, verdict_on, verdict_of}
 use Rattle.c_judge.specs.Verdict.{JudgeSettled, JudgeForCSettled}
+use Rattle.c_judge.proofs.Replays.{part_length}
 use Rattle.c_judge.specs.declared.Figures.{Figures}
 use Rattle.c_judge.specs.declared.Judgement.{Judgement}
 use Rattle.c_judge.specs.declared.Verdict.{Verdict}
@@ -60,16 +60,12 @@ module _ (f : List ℕ) where
   verdict_too_long h = rw (lt-leb (length f) limit h)
 
   module _ (l : length f ≤ limit) where
-    pub verdict_faulty : (first_faulty f ≡ 0 → ⊥) → Faulty (first_faulty f) ≡ verdict_of f
+    pub verdict_by : (o : Option ℕ) → o ≡ first_faulty f → verdict_on f o ≡ verdict_of f
     unfolding verdict_of
-    verdict_faulty h = rw (le-leb (length f) limit l, ne_eqb (first_faulty f) 0 h)
-
-    verdict_replayed : first_faulty f ≡ 0 → compared 0 (right_answers f) (section_of f answers_kind) ≡ verdict_of f
-    unfolding verdict_of
-    verdict_replayed h = rw (le-leb (length f) limit l, eq-eqb (first_faulty f) 0 h)
+    verdict_by o e = rw (le-leb (length f) limit l, e)
 
 -- what the sections of a sound file hold
-module _ (f : List ℕ) (z : first_faulty f ≡ 0) where
+module _ (f : List ℕ) (z : first_faulty f ≡ None) where
   image_state : decode_of (section_of f image_kind) ≡ None → ⊥
   unfolding is_accepted
   image_state b =
@@ -88,26 +84,14 @@ module _ (f : List ℕ) (z : first_faulty f ≡ 0) where
       accepted f z memory_kind (omega arith) (omega arith) in
       eqb-true _ _ t
 
-  pub events_known : (e : Entry) → e ≡ entry_of f events_kind → all_known (body_of f e) ≡ true
+  pub events_known : all_known (section_of f events_kind) ≡ true
   unfolding is_accepted
-  events_known e p =
-      let t : all_known (section_of f events_kind) ≡ true = accepted f z events_kind (omega arith) (omega arith) in
-      rw p t
+  events_known = accepted f z events_kind (omega arith) (omega arith)
 
   -- the answers are as many as the events
-  module _ (ev an : Entry) (pe : ev ≡ entry_of f events_kind) (pa : an ≡ entry_of f answers_kind) where
-    counts : ev.size ≡ an.size
-    counts = ap (λ (x : Entry). x.size) pe ∙ even f (sound_of f z) ∙ ap (λ (x : Entry). x.size) (sym pa)
-
-    pub answers_inside : an.from + ev.size ≤ length f
-    answers_inside =
-        let h = inside f z answers_kind (omega arith) (omega arith) an pa in
-        let n = counts in
-        omega arith
-
-    -- the replay of what was found is the verdict
-    pub replay_done : length f ≤ limit → (i m : List ℕ) → i ≡ section_of f image_kind → m ≡ section_of f memory_kind
-        → compared 0 (run_of (candidate i) m (body_of f ev)).answers (take ev.size (drop an.from f)) ≡ verdict_of f
-    replay_done l i m pi pm =
-        let a : take ev.size (drop an.from f) ≡ section_of f answers_kind = rw counts (ap (body_of f) pa) in
-        rw (a, pm, pi, ap (body_of f) pe) (verdict_replayed f l z)
+  pub counts : length (section_of f answers_kind) ≡ length (section_of f events_kind)
+  counts =
+      let e = inside f z events_kind (omega arith) (omega arith) _ refl in
+      let a = inside f z answers_kind (omega arith) (omega arith) _ refl in
+      part_length f (entry_of f answers_kind).from (entry_of f answers_kind).size a ∙ sym (even f (sound_of f z))
+      ∙ sym (part_length f (entry_of f events_kind).from (entry_of f events_kind).size e)

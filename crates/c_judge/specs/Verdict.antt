@@ -3,9 +3,9 @@
 -- all agree. `JudgeSettled` is the whole outcome: the file is only read.
 --   figures_of                        number and values of each verdict
 --   right_answers, compared           the answers by the rules, and beside the recorded ones
---   verdict_of                        the verdict, of the file's bytes
+--   verdict_on, verdict_of            the verdict, of the file's bytes
 --   JudgeSettled, JudgeForCSettled   the contracts of `judge` and of `fm3130_judge`
-use Rattle.std.specs.Prelude.{ℕ, ◌+◌, ◌≡◌, cond, List, [], ◌∷◌, leb, eqb, length}
+use Rattle.std.specs.Prelude.{ℕ, ◌+◌, ◌≡◌, cond, List, [], ◌∷◌, leb, eqb, length, Option, Some, None}
 use Rattle.fm3130_image.specs.Image.{candidate}
 use Rattle.fm3130_list.specs.Run.{run_of}
 use Rattle.capture_table.specs.Table.{image_kind, memory_kind, events_kind, answers_kind}
@@ -39,14 +39,14 @@ compared n [] bs = Agree n
 compared n (r ∷ rs) [] = Agree n
 compared n (r ∷ rs) (b ∷ bs) = cond (eqb b r) (compared (n + 1) rs bs) (Differs n b r)
 
+-- Auxiliary: by the first faulty entry, if there is one.
+abbrev pub verdict_on : List ℕ → Option ℕ → Verdict
+verdict_on f None = compared 0 (right_answers f) (section_of f answers_kind)
+verdict_on f (Some n) = Faulty n
+
 -- "A malformed file is named by its first faulty entry before any event is judged; one over 60 KiB is named too long."
 unfoldable pub verdict_of : List ℕ → Verdict
-verdict_of f =
-    cond (leb (length f) limit)
-    (cond (eqb (first_faulty f) 0)
-    (compared 0 (right_answers f) (section_of f answers_kind))
-    (Faulty (first_faulty f)))
-    TooLong
+verdict_of f = cond (leb (length f) limit) (verdict_on f (first_faulty f)) TooLong
 
 -- The contract of `judge`: number and values of what it answers are those of the verdict on the file.
 abbrev pub JudgeSettled : List ℕ → Verdict → Type 0

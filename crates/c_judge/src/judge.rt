@@ -1,14 +1,15 @@
 // SPDX-License-Identifier: Apache-2.0
 // The verdict on a capture: its length and its table first, then the recorded events.
 ghost use Rattle.std.specs.Prelude.{◌≡◌};
-ghost use Rattle.c_judge.specs.Verdict.{figures_of, JudgeSettled, JudgeForCSettled};
+ghost use Rattle.capture_table.specs.Sections.{first_faulty};
+ghost use Rattle.c_judge.specs.Verdict.{figures_of, verdict_on, JudgeSettled, JudgeForCSettled};
 
 use crate::replay::replay;
 use crate::{Figures, Judgement, Verdict};
 use bus_image::bytes::copy;
+use capture_table::Kind;
 use capture_table::faults::first_faulty;
-use capture_table::sections::{entry_of, section};
-use capture_table::{ANSWERS_KIND, EVENTS_KIND, IMAGE_KIND, MEMORY_KIND};
+use capture_table::sections::section;
 use fm3130_image::{LENGTH, MEMORY};
 
 // The bytes of the longest capture: 60 KiB.
@@ -21,59 +22,64 @@ pub fn judge(file: &[u8]) -> Verdict
     if LIMIT < file.len() {
         return Verdict::TooLong;
     }
-    let faulty = first_faulty(file);
-    if faulty != 0 {
-        return Verdict::Faulty(faulty);
+    match first_faulty(file) {
+        Some(entry) => Verdict::Faulty(entry),
+        None => judge_sound(file),
     }
-    let mut image = [0u8; LENGTH];
-    copy(section(file, IMAGE_KIND), &mut image);
-    let mut memory = [0u8; MEMORY];
-    copy(section(file, MEMORY_KIND), &mut memory);
-    let events = entry_of(file, EVENTS_KIND);
-    let answers = entry_of(file, ANSWERS_KIND);
+}
+
+// The verdict on a capture whose four entries are sound.
+fn judge_sound(file: &[u8]) -> Verdict
+    requires { first_faulty file.now ≡ None }
+    ensures { result ≡ verdict_on file.now None }
+{
+    let mut image = [0; LENGTH];
+    copy(section(file, Kind::Image), &mut image);
+    let mut memory = [0; MEMORY];
+    copy(section(file, Kind::Memory), &mut memory);
     replay(
         &mut image,
         &mut memory,
-        file,
-        events.from as usize,
-        answers.from as usize,
-        events.size as usize,
+        section(file, Kind::Events),
+        section(file, Kind::Answers),
     )
 }
 
 // A verdict's number and values.
-pub fn figures(verdict: Verdict) -> Figures
-    ensures { result ≡ figures_of verdict }
-{
-    match verdict {
-        Verdict::Agree(count) => Figures {
-            number: 0,
-            place: count as u64,
-            recorded: 0,
-            right: 0,
-        },
-        Verdict::Differs {
-            place,
-            recorded,
-            right,
-        } => Figures {
-            number: 1,
-            place: place as u64,
-            recorded,
-            right,
-        },
-        Verdict::Faulty(entry) => Figures {
-            number: 2,
-            place: entry as u64,
-            recorded: 0,
-            right: 0,
-        },
-        Verdict::TooLong => Figures {
-            number: 3,
-            place: 0,
-            recorded: 0,
-            right: 0,
-        },
+impl From<Verdict> for Figures {
+    ghost from_gives = { λ v r. r ≡ figures_of v };
+
+    fn from(verdict: Verdict) -> Figures {
+        match verdict {
+            Verdict::Agree(count) => Figures {
+                number: 0,
+                place: count as u64,
+                recorded: 0,
+                right: 0,
+            },
+            Verdict::Differs {
+                place,
+                recorded,
+                right,
+            } => Figures {
+                number: 1,
+                place: place as u64,
+                recorded,
+                right,
+            },
+            Verdict::Faulty(entry) => Figures {
+                number: 2,
+                place: u64::from(entry),
+                recorded: 0,
+                right: 0,
+            },
+            Verdict::TooLong => Figures {
+                number: 3,
+                place: 0,
+                recorded: 0,
+                right: 0,
+            },
+        }
     }
 }
 
@@ -82,9 +88,6 @@ pub fn figures(verdict: Verdict) -> Figures
 pub extern "C" fn fm3130_judge(file: &[u8]) -> Judgement
     ensures { JudgeForCSettled file.now result }
 {
-    let found = figures(judge(file));
-    Judgement {
-        number: found.number,
-        place: found.place,
-    }
+    let Figures { number, place, .. } = Figures::from(judge(file));
+    Judgement { number, place }
 }

@@ -5,12 +5,14 @@
 // judge      the verdict, its figures, and the entry for C
 #![tactic(auto)]
 
+use std::fmt;
+
 pub mod judge;
 mod replay;
 
 // What is said of a capture: how many answers agree; the first that differs, with the recorded and the right byte; the
 // first faulty entry, 1 to 4; or that the file is too long.
-#[derive(Clone, Copy)]
+#[derive(Clone, Copy, Debug, PartialEq, Eq)]
 pub enum Verdict {
     Agree(usize),
     Differs {
@@ -22,8 +24,26 @@ pub enum Verdict {
     TooLong,
 }
 
+impl fmt::Display for Verdict {
+    fn fmt<W: fmt::Write>(&self, f: &mut fmt::Formatter<W>) -> fmt::Result {
+        match self {
+            Verdict::Agree(count) => write!(f, "all agree: {count} answers"),
+            Verdict::Differs {
+                place,
+                recorded,
+                right,
+            } => write!(
+                f,
+                "answer {place} differs: recorded {recorded:02x}, right {right:02x}"
+            ),
+            Verdict::Faulty(entry) => write!(f, "entry {entry} is faulty"),
+            Verdict::TooLong => f.write_str("too long"),
+        }
+    }
+}
+
 // A verdict in figures: its number; the count, the place or the entry; and the two bytes of an answer that differs.
-#[derive(Clone, Copy)]
+#[derive(Clone, Copy, Debug, PartialEq, Eq)]
 pub struct Figures {
     pub number: u64,
     pub place: u64,
@@ -33,7 +53,7 @@ pub struct Figures {
 
 // What C is told: a verdict's number and place.
 #[repr(C)]
-#[derive(Clone, Copy)]
+#[derive(Clone, Copy, Debug, PartialEq, Eq)]
 pub struct Judgement {
     pub number: u64,
     pub place: u64,

@@ -15,18 +15,16 @@ use capture_reader::taken_through;
 // The events of the longest stretch: so many answers are kept at a time.
 const LONGEST: usize = 256;
 
-// Bytes of the file from a place on, one by one through a reader, as many as there is room for.
-fn fetch(file: &[u8], place: usize, bytes: &mut [u8])
-    requires { place + length bytes.old ≤ length file.now }
-    ensures { bytes.new ≡ take (length bytes.old) (drop place file.now) }
+// Bytes of a section from a place on, one by one through a reader, as many as there is room for.
+fn fetch(section: &[u8], place: usize, bytes: &mut [u8])
+    requires { place + length bytes.old ≤ length section.now }
+    ensures { bytes.new ≡ take (length bytes.old) (drop place section.now) }
 {
     let mut at = place;
-    let mut i = 0;
-    while i < bytes.len() {
-        let taken = taken_through(file, at);
+    for i in 0..bytes.len() {
+        let taken = taken_through(section, at);
         bytes[i] = taken.byte;
         at = taken.place;
-        i += 1;
     }
 }
 
@@ -36,8 +34,7 @@ fn beside(recorded: &[u8], right: &[u8], from: usize) -> Verdict
     requires recorded_bound { from + length recorded.now < 2 ^ 64 }
     ensures { result ≡ compared from right.now recorded.now }
 {
-    let mut i = 0;
-    while i < recorded.len() {
+    for i in 0..recorded.len() {
         if recorded[i] != right[i] {
             return Verdict::Differs {
                 place: from + i,
@@ -45,53 +42,49 @@ fn beside(recorded: &[u8], right: &[u8], from: usize) -> Verdict
                 right: right[i],
             };
         }
-        i += 1;
     }
-    Verdict::Agree(from + i)
+    Verdict::Agree(from + recorded.len())
 }
 
-// As many events from one place of the file on as there is room for, and their answers from another; so many came before.
+// As many events from a place on as there is room for, beside their answers.
 fn stretch(
     image: &mut [u8],
     memory: &mut [u8],
-    file: &[u8],
-    events: usize,
-    answers: usize,
-    before: usize,
+    events: &[u8],
+    answers: &[u8],
+    at: usize,
     asked: &mut [u8],
     given: &mut [u8],
 ) -> Verdict
     requires accepted { Accepted image.old memory.old }
-    requires asked_in_bounds { (events + length asked.old ≤ length file.now) × (answers + length asked.old ≤ length file.now)
-        × (length given.old ≡ length asked.old) × (before + length asked.old < 2 ^ 64) }
-    requires file_value { all_known (take (length asked.old) (drop events file.now)) ≡ true }
+    requires asked_in_bounds { (at + length asked.old ≤ length events.now) × (at + length asked.old ≤ length answers.now)
+        × (length given.old ≡ length asked.old) × (at + length asked.old < 2 ^ 64) }
+    requires events_known { all_known (take (length asked.old) (drop at events.now)) ≡ true }
     ensures { Judged (candidate image.old) memory.old
-        (take (length asked.old) (drop events file.now))
-        (take (length asked.old) (drop answers file.now)) before
+        (take (length asked.old) (drop at events.now)) (take (length asked.old) (drop at answers.now)) at
         result image.new memory.new }
 {
-    let to = answers + asked.len();
-    fetch(file, events, asked);
+    let to = at + asked.len();
+    fetch(events, at, asked);
     run_events(image, memory, asked, given);
-    beside(&file[answers..to], given, before)
+    beside(&answers[at..to], given, at)
 }
 
 // So many of them, with room of its own.
 fn with_room(
     image: &mut [u8],
     memory: &mut [u8],
-    file: &[u8],
-    events: usize,
-    answers: usize,
-    before: usize,
+    events: &[u8],
+    answers: &[u8],
+    at: usize,
     long: usize,
 ) -> Verdict
     requires accepted { Accepted image.old memory.old }
-    requires long_in_bounds { (events + long ≤ length file.now) × (answers + long ≤ length file.now) × (long ≤ longest)
-        × (before + long < 2 ^ 64) }
-    requires file_value { all_known (take long (drop events file.now)) ≡ true }
+    requires long_in_bounds { (at + long ≤ length events.now) × (at + long ≤ length answers.now) × (long ≤ longest)
+        × (at + long < 2 ^ 64) }
+    requires events_known { all_known (take long (drop at events.now)) ≡ true }
     ensures { Judged (candidate image.old) memory.old
-        (take long (drop events file.now)) (take long (drop answers file.now)) before
+        (take long (drop at events.now)) (take long (drop at answers.now)) at
         result image.new memory.new }
 {
     let mut asked = [0u8; LONGEST];
@@ -99,64 +92,36 @@ fn with_room(
     stretch(
         image,
         memory,
-        file,
         events,
         answers,
-        before,
+        at,
         &mut asked[..long],
         &mut given[..long],
     )
 }
 
-// Whether a verdict says that all agree.
-fn agrees(verdict: Verdict) -> bool
-    ensures { result ≡ is_agreed verdict }
-{
-    match verdict {
-        Verdict::Agree(_) => true,
-        Verdict::Differs {
-            place: _,
-            recorded: _,
-            right: _,
-        } => false,
-        Verdict::Faulty(_) => false,
-        Verdict::TooLong => false,
+impl Verdict {
+    // Whether it says that all agree.
+    fn agrees(self) -> bool
+        ensures { result ≡ is_agreed self }
+    {
+        matches!(self, Verdict::Agree(_))
     }
 }
 
-// How long the next stretch is.
-fn next_long(left: usize) -> usize
-    requires { 0 < left }
-    ensures { (0 < result) × (result ≤ left) × (result ≤ longest) }
-{
-    if left < LONGEST {
-        return left;
-    }
-    LONGEST
-}
-
-// So many events from one place of the file on, and so many answers from another: the first answer that is not the
-// device's. The events change the image and the memory that are handed in.
-pub(crate) fn replay(
-    image: &mut [u8],
-    memory: &mut [u8],
-    file: &[u8],
-    events: usize,
-    answers: usize,
-    count: usize,
-) -> Verdict
+// Events beside as many answers: the first answer that is not the device's. The events change the image and the memory that
+// are handed in.
+pub(crate) fn replay(image: &mut [u8], memory: &mut [u8], events: &[u8], answers: &[u8]) -> Verdict
     requires accepted { Accepted image.old memory.old }
-    requires count_in_bounds { (events + count ≤ length file.now) × (answers + count ≤ length file.now) }
-    requires file_value { all_known (take count (drop events file.now)) ≡ true }
-    ensures { result ≡ compared 0
-        (run_of (candidate image.old) memory.old (take count (drop events file.now))).answers
-        (take count (drop answers file.now)) }
+    requires same_count { length answers.now ≡ length events.now }
+    requires events_known { all_known events.now ≡ true }
+    ensures { result ≡ compared 0 (run_of (candidate image.old) memory.old events.now).answers answers.now }
 {
     let mut i = 0;
-    while i < count {
-        let long = next_long(count - i);
-        let told = with_room(image, memory, file, events + i, answers + i, i, long);
-        if !agrees(told) {
+    while i < events.len() {
+        let long = LONGEST.min(events.len() - i);
+        let told = with_room(image, memory, events, answers, i, long);
+        if !told.agrees() {
             return told;
         }
         i += long;

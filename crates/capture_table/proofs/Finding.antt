@@ -1,13 +1,14 @@
 -- SPDX-License-Identifier: Apache-2.0
 -- In a sound file each kind is found, whichever entry has it, and there are as many events as answers.
-use Prim.Native.Nat.{ℕ, ◌+◌, ◌-◌, ◌≤◌, ◌<◌}
-use mathlib.Core.Path.{◌≡◌, sym, ap, ◌∙◌}
+use Prim.Native.Nat.{ℕ, zero, suc, ◌+◌, ◌-◌, ◌≤◌, ◌<◌}
+use mathlib.Core.Path.{◌≡◌, sym, ap}
 use mathlib.Core.Bool.{true, false}
 use mathlib.Core.List.{List}
 use native.Mathlib.Omega.{arith}
 use lib.Dec.{ltb, eqb}
 use lib.ListN.{length, take, drop}
-use borrow.Author.Tests.{ltb-true, ltb-false, eqb-true, eqb-false, eq-eqb}
+use borrow.Author.Tests.{ltb-true, ltb-false, eqb-true, eqb-false, eq-eqb, ne_eqb}
+use Rattle.std.specs.Prelude.{None}
 use Rattle.wire.proofs.Tests.{by_test}
 use Rattle.capture_table.specs.Table.{table_size, entry_at, body_of, is_accepted}
 use Rattle.capture_table.specs.Sections.{index_of, entry_of, section_of, first_faulty}
@@ -85,30 +86,22 @@ module _ (f : List ℕ) (s : Sound f) where
 
 -- an entry found in its place
 module _ (f : List ℕ) (k : ℕ) where
-  is : (n : ℕ) (e : Entry) → e ≡ entry_at f n → e.kind ≡ k → eqb (entry_at f n).kind k ≡ true
-  is n e p h = eq-eqb _ _ (ap (λ (x : Entry). x.kind) (sym p) ∙ h)
+  pub index_at : (n : ℕ) → n < 3 → ((j : ℕ) → j < n → (entry_at f j).kind ≡ k → ⊥) → (entry_at f n).kind ≡ k → index_of f k ≡ n
+  index_at zero l o h = index_first f k (eq-eqb _ _ h)
+  index_at (suc zero) l o h = index_second f k (ne_eqb _ _ (o 0 (omega arith))) (eq-eqb _ _ h)
+  index_at (suc (suc zero)) l o h =
+      index_third f k (ne_eqb _ _ (o 0 (omega arith))) (ne_eqb _ _ (o 1 (omega arith))) (eq-eqb _ _ h)
+  index_at (suc (suc (suc n))) l o h = absurd (omega arith)
 
-  pub isnt : (n : ℕ) (e : Entry) → e ≡ entry_at f n → (e.kind ≡ k → ⊥) → eqb (entry_at f n).kind k ≡ false
-  isnt n e p h = by_test (eqb (entry_at f n).kind k)
-      (λ t. absurd (h (ap (λ (x : Entry). x.kind) p ∙ eqb-true _ _ t)))
-      (λ t. t)
+  pub index_last : ((j : ℕ) → j < 3 → (entry_at f j).kind ≡ k → ⊥) → index_of f k ≡ 3
+  index_last o =
+      index_fourth f k (ne_eqb _ _ (o 0 (omega arith))) (ne_eqb _ _ (o 1 (omega arith))) (ne_eqb _ _ (o 2 (omega arith)))
 
-  pub of_first : (e : Entry) → e ≡ entry_at f 0 → e.kind ≡ k → e ≡ entry_of f k
-  of_first e p h = rw (index_first f k (is 0 e p h)) p
-
-  module _ (a : eqb (entry_at f 0).kind k ≡ false) where
-    pub of_second : (e : Entry) → e ≡ entry_at f 1 → e.kind ≡ k → e ≡ entry_of f k
-    of_second e p h = rw (index_second f k a (is 1 e p h)) p
-
-    module _ (b : eqb (entry_at f 1).kind k ≡ false) where
-      pub of_third : (e : Entry) → e ≡ entry_at f 2 → e.kind ≡ k → e ≡ entry_of f k
-      of_third e p h = rw (index_third f k a b (is 2 e p h)) p
-
-      pub of_fourth : (e : Entry) → eqb (entry_at f 2).kind k ≡ false → e ≡ entry_at f 3 → e ≡ entry_of f k
-      of_fourth e c p = rw (index_fourth f k a b c) p
+  pub entry_found : (n : ℕ) (e : Entry) → index_of f k ≡ n → e ≡ entry_at f n → e ≡ entry_of f k
+  entry_found n e i p = rw i p
 
 -- what a file with no faulty entry holds
-module _ (f : List ℕ) (z : first_faulty f ≡ 0) where
+module _ (f : List ℕ) (z : first_faulty f ≡ None) where
   pub table_fits : table_size ≤ length f
   table_fits = (sound_of f z).fourth.reaches
 

@@ -2,3 +2,4 @@
 pub mod Sound
 pub mod Four
 pub mod Finding
+pub mod Numbered

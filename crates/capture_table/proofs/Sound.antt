@@ -1,7 +1,7 @@
 -- SPDX-License-Identifier: Apache-2.0
 -- What the soundness of an entry says, taken apart, and that no first faulty entry means four sound ones.
-use Prim.Native.Nat.{ℕ, zero, suc, ◌+◌, ◌*◌, ◌≤◌, ◌<◌}
-use mathlib.Core.Path.{◌≡◌, refl, sym}
+use Prim.Native.Nat.{ℕ, zero, suc, ◌+◌, ◌-◌, ◌*◌, ◌≤◌, ◌<◌}
+use mathlib.Core.Path.{◌≡◌, refl, sym, ap}
 use mathlib.Core.Bool.{Bool, true, false, not, ◌||◌, false≢true}
 use mathlib.Core.List.{List}
 use native.Mathlib.Omega.{arith}
@@ -10,17 +10,38 @@ use native.Mathlib.Nat.{not-suc-le-zero}
 use lib.Dec.{leb, ltb, eqb}
 use lib.ListN.{length}
 use borrow.Author.Tests.{leb-true, ltb-true, ltb-false, eqb-true, eqb-false, le-leb, not-true, not-false}
+use Rattle.std.specs.Prelude.{Option, Some, None, is_some}
+use Rattle.std.proofs.Common.{zero-add}
 use Rattle.wire.proofs.Tests.{by_test, and_split}
 use Rattle.capture_table.specs.Table.{overlap, table_size, entry_size, entry_at, body_of, is_accepted, stands_in, uneven}
 use Rattle.capture_table.specs.Table.{clashes, clashes_below, is_sound}
 use Rattle.capture_table.specs.Sections.{first_faulty}
 use Rattle.capture_table.specs.declared.Entry.{Entry}
 
--- one earlier entry more
-pub clash_more : (f : List ℕ) (e : Entry) (i : ℕ) (any : Bool) → any ≡ clashes_below f e i
-    → (any || clashes e (entry_at f i)) ≡ clashes_below f e (i + 1)
+-- one earlier entry more, which clashes or does not
+pub no_clash_more : (f : List ℕ) (e : Entry) (i : ℕ) → clashes_below f e i ≡ false → clashes e (entry_at f i) ≡ false
+    → clashes_below f e (i + 1) ≡ false
 unfolding clashes_below
-clash_more f e i any h = rw (add-one i, h)
+no_clash_more f e i g h = rw (add-one i, g, h)
+
+-- an entry that clashes with one of the first so many clashes with one of more
+clash_last : (f : List ℕ) (e : Entry) (n : ℕ) → clashes_below f e n ≡ true → clashes_below f e (suc n) ≡ true
+unfolding clashes_below
+clash_last f e n g = rw g
+
+clash_stays : (f : List ℕ) (e : Entry) (i k : ℕ) → clashes_below f e i ≡ true → clashes_below f e (k + i) ≡ true
+clash_stays f e i zero g = rw (zero-add i) g
+clash_stays f e i (suc k) g =
+    let z : suc (k + i) ≡ suc k + i = omega arith in
+    rw z at (clash_last f e (k + i) (clash_stays f e i k g))
+
+pub clash_found : (f : List ℕ) (e : Entry) (i n : ℕ) → i < n → clashes_below f e i ≡ false
+    → clashes e (entry_at f i) ≡ true → clashes_below f e n ≡ true
+unfolding clashes_below
+clash_found f e i n l g h =
+    let k = clash_stays f e (suc i) (n - suc i) (rw (g, h)) in
+    let z : n - suc i + suc i ≡ n = omega arith in
+    rw z at k
 
 pub or_split : (a b : Bool) → (a || b) ≡ false → (a ≡ false) × (b ≡ false)
 or_split true b e = absurd (false≢true (sym e))
@@ -103,7 +124,15 @@ pub record Sound (f : List ℕ) : Type 0 where
   pub third : Whole f 2
   pub fourth : Whole f 3
 
-pub sound_of : (f : List ℕ) → first_faulty f ≡ 0 → Sound f
+-- a faulty entry is named, or none is
+pub by_fault : {X : Type 0} (o : Option ℕ) → (o ≡ None → X) → ((n : ℕ) → o ≡ Some n → X) → X
+by_fault None f g = f refl
+by_fault (Some n) f g = g n refl
+
+pub some_none : (n : ℕ) → Some n ≡ None → ⊥
+some_none n e = false≢true (sym (ap is_some e))
+
+pub sound_of : (f : List ℕ) → first_faulty f ≡ None → Sound f
 unfolding first_faulty
 sound_of f h =
     by_test (is_sound f 0)
@@ -111,7 +140,21 @@ sound_of f h =
     (λ b. by_test (is_sound f 2)
     (λ c. by_test (is_sound f 3)
     (λ d. record { first = whole_of f 0 a; second = whole_of f 1 b; third = whole_of f 2 c; fourth = whole_of f 3 d })
-    (λ d. let z : 4 ≡ 0 = rw (a, b, c, d) at h in absurd (omega arith)))
-    (λ c. let z : 3 ≡ 0 = rw (a, b, c) at h in absurd (omega arith)))
-    (λ b. let z : 2 ≡ 0 = rw (a, b) at h in absurd (omega arith)))
-    (λ a. let z : 1 ≡ 0 = rw a at h in absurd (omega arith))
+    (λ d. absurd (some_none 4 (rw (a, b, c, d) at h))))
+    (λ c. absurd (some_none 3 (rw (a, b, c) at h))))
+    (λ b. absurd (some_none 2 (rw (a, b) at h))))
+    (λ a. absurd (some_none 1 (rw a at h)))
+
+-- the first that is faulty, in its place
+pub first_fault : (f : List ℕ) (n : ℕ) → n < 4 → ((j : ℕ) → j < n → is_sound f j ≡ true) → is_sound f n ≡ false
+    → first_faulty f ≡ Some (n + 1)
+unfolding first_faulty
+first_fault f zero l s h = rw h
+first_fault f (suc zero) l s h = rw (s 0 (omega arith), h)
+first_fault f (suc (suc zero)) l s h = rw (s 0 (omega arith), s 1 (omega arith), h)
+first_fault f (suc (suc (suc zero))) l s h = rw (s 0 (omega arith), s 1 (omega arith), s 2 (omega arith), h)
+first_fault f (suc (suc (suc (suc n)))) l s h = absurd (omega arith)
+
+pub no_fault : (f : List ℕ) → ((j : ℕ) → j < 4 → is_sound f j ≡ true) → first_faulty f ≡ None
+unfolding first_faulty
+no_fault f s = rw (s 0 (omega arith), s 1 (omega arith), s 2 (omega arith), s 3 (omega arith))

@@ -1,15 +1,19 @@
 -- SPDX-License-Identifier: Apache-2.0
 -- A capture's table of contents (02, 10: "a table of contents first, one entry a section with its kind, offset and
 -- length, then the bodies"), and when an entry is sound.
+--   kind_number, KindOf         the kinds of sections by their numbers
 --   word_at, entry_at, body_of    an entry of the table, and its body
 --   stands_in                   an entry by itself
 --   clashes                    an entry with an earlier one
 --   is_sound                    an entry of the table
-use Rattle.std.specs.Prelude.{ℕ, zero, suc, ◌+◌, ◌*◌, Bool, true, false, cond, not, ◌&&◌, ◌||◌, List, leb, ltb, eqb, length, take, drop, get_or, is_some}
+use Rattle.std.specs.Prelude.{ℕ, zero, suc, ◌+◌, ◌*◌, Bool, true, false, cond, not, ◌&&◌, ◌||◌, List, leb, ltb, eqb, length, take, drop, get_or, is_some, ◌≡◌, Result, MatchResult}
 use Rattle.fm3130.specs.Chip.{memory_size}
 use Rattle.fm3130_image.specs.Image.{decode_of}
 use Rattle.fm3130_list.specs.Run.{all_known}
 use Rattle.capture_table.specs.declared.Entry.{Entry}
+use Rattle.capture_table.specs.declared.UnknownKind.{UnknownKind}
+use Rattle.capture_table.specs.declared.Kind.{Kind}
+use Rattle.capture_table.specs.declared.Kind.TheVariants.{Image, Memory, Events, Answers}
 
 -- "Starting image, memory, events, answers."
 abbrev pub image_kind : ℕ
@@ -23,6 +27,16 @@ events_kind = 3
 
 abbrev pub answers_kind : ℕ
 answers_kind = 4
+
+-- Each kind's number in the table; and the kind that a number is, or none where it is no kind's.
+abbrev pub kind_number : Kind → ℕ
+kind_number Image = image_kind
+kind_number Memory = memory_kind
+kind_number Events = events_kind
+kind_number Answers = answers_kind
+
+abbrev pub KindOf : ℕ → Result Kind UnknownKind → Type 0
+KindOf n r = MatchResult r (λ k. n ≡ kind_number k) (λ _. (k : Kind) → n ≡ kind_number k → ⊥)
 
 -- Four entries of twelve bytes.
 abbrev pub entry_size : ℕ

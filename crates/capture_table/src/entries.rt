@@ -1,29 +1,24 @@
 // SPDX-License-Identifier: Apache-2.0
 // An entry of the table: three numbers of four bytes, the low byte first.
 ghost use Rattle.std.specs.Prelude.{◌≡◌, ◌+◌, ◌*◌, ◌≤◌, length};
-ghost use Rattle.capture_table.specs.Table.{word, word_at, entry_at, entry_size};
+ghost use Rattle.capture_table.specs.Table.{word_at, entry_at, entry_size};
 
 use crate::Entry;
 
 // The bytes of an entry.
 pub(crate) const ENTRY: usize = 12;
 
-// Four bytes as a number, the low byte first.
-fn joined(a: u8, b: u8, c: u8, d: u8) -> u32
-    ensures { result ≡ word a b c d }
-{
-    a as u32 + b as u32 * 0x100 + c as u32 * 0x10000 + d as u32 * 0x1000000
-}
-
-// The number at a place.
+// The number at a place: four bytes, the low byte first.
+#[tactic(auto, unfolding(crate::specs::Table::word_at))]
 fn word_at(file: &[u8], at: usize) -> u32
     requires { at + 4 ≤ length file.now }
     ensures { result ≡ word_at file.now at }
 {
-    joined(file[at], file[at + 1], file[at + 2], file[at + 3])
+    u32::from_le_bytes([file[at], file[at + 1], file[at + 2], file[at + 3]])
 }
 
 // An entry of the table, counted from 0.
+#[tactic(auto, unfolding(crate::specs::Table::entry_at))]
 pub(crate) fn entry_at(file: &[u8], n: usize) -> Entry
     requires { n * entry_size + entry_size ≤ length file.now }
     ensures { result ≡ entry_at file.now n }

@@ -1,36 +1,30 @@
 // SPDX-License-Identifier: Apache-2.0
 // The entry and the body of a kind, in a file whose four entries are sound: each kind is then there once.
-ghost use Rattle.std.specs.Prelude.{◌≡◌, ◌≤◌};
-ghost use Rattle.capture_table.specs.Table.{image_kind, answers_kind};
+ghost use Rattle.std.specs.Prelude.{◌≡◌};
+ghost use Rattle.capture_table.specs.Table.{kind_number};
 ghost use Rattle.capture_table.specs.Sections.{first_faulty, entry_of, section_of};
 
-use crate::Entry;
 use crate::entries::entry_at;
+use crate::{Entry, Kind};
 
 // The entry of a kind.
-pub fn entry_of(file: &[u8], kind: u32) -> Entry
-    requires { first_faulty file.now ≡ 0 }
-    ensures { result ≡ entry_of file.now kind }
+pub fn entry_of(file: &[u8], kind: Kind) -> Entry
+    requires { first_faulty file.now ≡ None }
+    ensures { result ≡ entry_of file.now (kind_number kind) }
 {
-    let first = entry_at(file, 0);
-    if first.kind == kind {
-        return first;
-    }
-    let second = entry_at(file, 1);
-    if second.kind == kind {
-        return second;
-    }
-    let third = entry_at(file, 2);
-    if third.kind == kind {
-        return third;
+    for n in 0..3 {
+        let entry = entry_at(file, n);
+        if entry.kind == kind.number() {
+            return entry;
+        }
     }
     entry_at(file, 3)
 }
 
 // The body of a kind, as a part of the file.
-pub fn section(file: &[u8], kind: u32) -> &[u8]
-    requires { (first_faulty file.now ≡ 0) × (image_kind ≤ kind) × (kind ≤ answers_kind) }
-    ensures { result.now ≡ section_of file.now kind }
+pub fn section(file: &[u8], kind: Kind) -> &[u8]
+    requires { first_faulty file.now ≡ None }
+    ensures { result.now ≡ section_of file.now (kind_number kind) }
 {
     let entry = entry_of(file, kind);
     let from = entry.from as usize;

@@ -7,46 +7,15 @@
 //   too long
 #![tactic(auto)]
 
-ghost use Rattle.std.specs.Prelude.{◌≤◌, IfOk, length};
-
-use c_judge::Verdict;
 use c_judge::judge::judge;
 use std::io;
 use std::io::Read;
 
 // One byte more than the longest capture, to know that there are more.
-const ROOM: usize = 61441;
-
-fn say(rt: &impl Print, verdict: Verdict) -> io::Result<()> {
-    match verdict {
-        Verdict::Agree(count) => println!(rt; "all agree: {count} answers"),
-        Verdict::Differs {
-            place,
-            recorded,
-            right,
-        } => println!(rt; "answer {place} differs: recorded {recorded:02x}, right {right:02x}"),
-        Verdict::Faulty(entry) => println!(rt; "entry {entry} is faulty"),
-        Verdict::TooLong => println!(rt; "too long"),
-    }
-}
-
-// Reads until the buffer is full or the input ends, and returns how many bytes were read.
-fn read_full(input: &mut impl Read, buffer: &mut [u8]) -> io::Result<usize>
-    ensures { IfOk result (λ n. n ≤ length buffer.new) }
-{
-    let mut done = 0;
-    while done < buffer.len() {
-        let count = input.read(&mut buffer[done..])?;
-        if count == 0 {
-            break;
-        }
-        done += count;
-    }
-    Ok(done)
-}
+const ROOM: u64 = 61441;
 
 fn main(rt: HostRuntime) -> io::Result<()> {
-    let mut buffer = [0u8; ROOM];
-    let count = read_full(&mut rt.reader(), &mut buffer)?;
-    say(&rt, judge(&buffer[..count]))
+    let mut capture = Vec::new(rt.alloc());
+    rt.reader().take(ROOM).read_to_end(&mut capture)?;
+    println!(rt; "{}", judge(&capture))
 }

@@ -4,9 +4,6 @@
 // of the byte in the input, counted from 0, and the report in hex, bit k for lamp k.
 #![tactic(auto)]
 
-ghost use Rattle.std.specs.Prelude.{◌≤◌, IfOk, length};
-
-use bus_image::bytes::clear;
 use c_lamps::run::fm3130_lamps;
 use c_run::run::fm3130_fresh;
 use fm3130_image::{LENGTH, MEMORY};
@@ -18,78 +15,62 @@ use std::io::Read;
 const ANEW: u8 = 255;
 
 // The most bytes that are read.
-const ROOM: usize = 65536;
+const ROOM: u64 = 65536;
 
-// A fresh device, its memory all 0, and the record before any event: all lamps are dark.
-fn begin(image: &mut [u8], memory: &mut [u8], record_bytes: &mut [u8]) {
-    fm3130_fresh(image);
-    clear(memory);
-    clear(record_bytes);
+// A device: its state as an image, its memory, and the record that its lamps follow.
+#[derive(Clone, Copy)]
+struct Panel {
+    image: [u8; LENGTH],
+    memory: [u8; MEMORY],
+    record_bytes: [u8; RECORD],
 }
 
-// One event on the device and the record; the report after it.
-fn report_after(image: &mut [u8], memory: &mut [u8], record_bytes: &mut [u8], event: u8) -> u64 {
-    if event == ANEW {
-        begin(image, memory, record_bytes);
-        return 0;
+impl Panel {
+    // A fresh device, its memory all 0, and the record before any event: all lamps are dark.
+    fn new() -> Panel {
+        let mut image = [0; LENGTH];
+        fm3130_fresh(&mut image);
+        Panel {
+            image,
+            memory: [0; MEMORY],
+            record_bytes: [0; RECORD],
+        }
     }
-    let events = [event];
-    let mut answers = [0u8; 1];
-    let shown = fm3130_lamps(image, memory, &events, &mut answers, record_bytes);
-    shown.report
-}
 
-// A line: where in the input the report changed, and what it is now.
-fn print_change(rt: &impl Print, place: usize, report: u64) -> io::Result<()> {
-    println!(rt; "{place} {report:02x}")
+    // One event on the device and the record; the report after it.
+    fn report_after(&mut self, event: u8) -> u64 {
+        if event == ANEW {
+            *self = Panel::new();
+            return 0;
+        }
+        let mut answers = [0; 1];
+        fm3130_lamps(
+            &mut self.image,
+            &mut self.memory,
+            &[event],
+            &mut answers,
+            &mut self.record_bytes,
+        )
+        .report
+    }
 }
 
 // Every byte of the input.
-fn play(
-    rt: &impl Print,
-    image: &mut [u8],
-    memory: &mut [u8],
-    record_bytes: &mut [u8],
-    input: &[u8],
-) -> io::Result<()> {
-    let mut report: u64 = 0;
-    for (i, event) in input.iter().enumerate() {
-        let after = report_after(image, memory, record_bytes, *event);
+fn play(rt: &impl Print, input: &[u8]) -> io::Result<()> {
+    let mut panel = Panel::new();
+    let mut report = 0;
+    for (place, event) in input.iter().enumerate() {
+        let after = panel.report_after(*event);
         if after != report {
-            print_change(rt, i, after)?;
+            println!(rt; "{place} {after:02x}")?;
         }
         report = after;
     }
     Ok(())
 }
 
-// Reads until the buffer is full or the input ends, and returns how many bytes were read.
-fn read_full(input: &mut impl Read, buffer: &mut [u8]) -> io::Result<usize>
-    ensures { IfOk result (λ n. n ≤ length buffer.new) }
-{
-    let mut done = 0;
-    while done < buffer.len() {
-        let count = input.read(&mut buffer[done..])?;
-        if count == 0 {
-            break;
-        }
-        done += count;
-    }
-    Ok(done)
-}
-
 fn main(rt: HostRuntime) -> io::Result<()> {
-    let mut image = [0u8; LENGTH];
-    let mut memory = [0u8; MEMORY];
-    let mut record_bytes = [0u8; RECORD];
-    let mut input = [0u8; ROOM];
-    begin(&mut image, &mut memory, &mut record_bytes);
-    let count = read_full(&mut rt.reader(), &mut input)?;
-    play(
-        &rt,
-        &mut image,
-        &mut memory,
-        &mut record_bytes,
-        &input[..count],
-    )
+    let mut input = Vec::new(rt.alloc());
+    rt.reader().take(ROOM).read_to_end(&mut input)?;
+    play(&rt, &input)
 }

@@ -1,7 +1,6 @@
 -- SPDX-License-Identifier: Apache-2.0
--- The loop's invariant: the bytes passed are those of the file, and the reader's place is the next one's. The measure is
--- what is left.
-use Prim.Native.Nat.{◌+◌, ◌≤◌, ◌-◌}
+-- The bytes passed are those of the section, and the reader's place is the next one's.
+use Prim.Native.Nat.{◌+◌}
 use mathlib.Core.Path.{◌≡◌}
 use lib.ListN.{length, take}
 use Rattle.c_judge.proofs.Replays.{section}
@@ -9,8 +8,5 @@ use Rattle.c_judge.proofs.replay.fetch.Given as goal
 
 abbrev pub invariant-loop-i : goal.invariant-loop-i
 invariant-loop-i l =
-    (l.i ≤ length l.initial.bytes) × (length l.bytes ≡ length l.initial.bytes) × (l.at ≡ l.place + l.i)
-    × (take l.i l.bytes ≡ take l.i (section l.file l.place (length l.initial.bytes)))
-
-abbrev pub decreases-loop-i : goal.decreases-loop-i
-decreases-loop-i l = length l.initial.bytes - l.i
+    (length l.bytes ≡ length l.initial.bytes) × (l.at ≡ l.place + l.i)
+    × (take l.i l.bytes ≡ take l.i (section l.section l.place (length l.initial.bytes)))

@@ -1,6 +1,6 @@
 -- SPDX-License-Identifier: Apache-2.0
--- What was fetched is the section's stretch, and its events are known; the answers that the run leaves are all of what was
--- given, and the recorded ones beside them are a part of the file.
+-- What was fetched is the stretch, and its events are known; the answers that the run leaves are all of what was given, and
+-- the recorded ones beside them are a part of theirs.
 use Prim.Native.Nat.{◌+◌, ◌-◌}
 use mathlib.Core.Path.{◌≡◌, sym, ◌∙◌}
 use native.Mathlib.Omega.{arith}
@@ -12,16 +12,15 @@ pub run_events-requires : goal.run_events-requires
 run_events-requires c =
     let s = c in
     let e = c.fetch.ensures in
-    let n = part_length s.args.file.now s.args.events (length s.args.asked.now) s.requires.asked_in_bounds.0 in
-    record { accepted = s.requires.accepted; events_value = (rw e s.requires.file_value, rw e (omega (arith, n, s.requires.asked_in_bounds.2))) }
+    let n = part_length s.args.events.now s.args.at (length s.args.asked.now) s.requires.asked_in_bounds.0 in
+    record { accepted = s.requires.accepted; events_value = (rw e s.requires.events_known, rw e (omega (arith, n, s.requires.asked_in_bounds.2))) }
 
 pub returns : goal.returns
 returns c =
     let s = c in
-    let f = s.args.file.now in
     let n = length s.args.asked.now in
-    let l = part_length f s.args.events n s.requires.asked_in_bounds.0 ∙ sym (part_length f s.args.answers n s.requires.asked_in_bounds.1) in
+    let at = s.args.at in
+    let l = part_length s.args.events.now at n s.requires.asked_in_bounds.0 ∙ sym (part_length s.args.answers.now at n s.requires.asked_in_bounds.1) in
     let r = rw c.fetch.ensures at c.run_events.ensures in
-    let m : s.args.answers + n - s.args.answers ≡ n = omega arith in
-    judged_beside _ _ (section f s.args.events n) _ f s.args.answers (s.args.answers + n - s.args.answers) n
-    s.args.before _ _ _ _ l r c.beside.ensures m
+    let m : at + n - at ≡ n = omega arith in
+    judged_beside _ _ (section s.args.events.now at n) _ s.args.answers.now at (at + n - at) n at _ _ _ _ l r c.beside.ensures m

@@ -6,52 +6,39 @@ use native.Mathlib.Omega.{arith}
 use lib.ListN.{length}
 use borrow.Author.Tests.{lt-leb, le-leb}
 use Rattle.capture_table.specs.Table.{stands_in}
+use Rattle.capture_table.proofs.Numbered.{known_kind, unknown_kind}
 use Rattle.capture_table.proofs.faults.stands.Goals as goal
 
-pub returns-then-kind-lt-IMAGE_KIND : goal.returns-then-kind-lt-IMAGE_KIND
+pub returns-in_default : goal.returns-in_default
 unfolding stands_in
-returns-then-kind-lt-IMAGE_KIND c = let a = c.args in rw (lt-leb 1 a.entry.kind c.if-kind-lt-IMAGE_KIND.true)
-
-pub returns-then-kind-gt-ANSWERS_KIND : goal.returns-then-kind-gt-ANSWERS_KIND
-unfolding stands_in
-returns-then-kind-gt-ANSWERS_KIND c =
-    let a = c.args in
-    rw (le-leb 1 a.entry.kind c.if-kind-lt-IMAGE_KIND.false, lt-leb a.entry.kind 4 c.if-kind-gt-ANSWERS_KIND.true)
+returns-in_default c = rw (unknown_kind c.args.entry.kind c.in_default.ensures)
 
 pub returns-then-file-to : goal.returns-then-file-to
 unfolding stands_in
 returns-then-file-to c =
-    let a = c.args in
-    rw (
-      le-leb 1 a.entry.kind c.if-kind-lt-IMAGE_KIND.false,
-      le-leb a.entry.kind 4 c.if-kind-gt-ANSWERS_KIND.false,
-      lt-leb (a.entry.from + a.entry.size) (length a.file.now) c.if-file-to.true,
-    )
+    let e = c.args.entry in
+    rw (known_kind e.kind c.in-Ok.kind c.in-Ok.ensures, lt-leb (e.from + e.size) (length c.args.file.now) c.if-file-to.true)
 
 pub returns-then-overlaps : goal.returns-then-overlaps
 unfolding stands_in
 returns-then-overlaps c =
-    let w = c in
-    let a = w.args in
+    let e = c.args.entry in
     rw (
-      le-leb 1 a.entry.kind w.if-kind-lt-IMAGE_KIND.false,
-      le-leb a.entry.kind 4 w.if-kind-gt-ANSWERS_KIND.false,
-      le-leb (a.entry.from + a.entry.size) (length a.file.now) w.if-file-to.false,
-      sym c.overlaps.ensures ∙ c.if-overlaps.true,
+      known_kind e.kind c.in-Ok.kind c.in-Ok.ensures,
+      le-leb (e.from + e.size) (length c.args.file.now) c.if-file-to.false,
+      sym (rw c.body.ensures at c.overlaps.ensures) ∙ c.if-overlaps.true,
     )
 
 pub returns : goal.returns
 unfolding stands_in
 returns c =
-    let v = c in
-    let w = v in
-    let a = w.args in
-    let n : a.entry.from + a.entry.size - a.entry.from ≡ a.entry.size = omega arith in
+    let e = c.args.entry in
+    let n : e.from + e.size - e.from ≡ e.size = omega arith in
     let r = c.accepts.ensures in
     rw (
-      le-leb 1 a.entry.kind w.if-kind-lt-IMAGE_KIND.false,
-      le-leb a.entry.kind 4 w.if-kind-gt-ANSWERS_KIND.false,
-      le-leb (a.entry.from + a.entry.size) (length a.file.now) w.if-file-to.false,
-      sym v.overlaps.ensures ∙ v.if-overlaps.false,
+      known_kind e.kind c.in-Ok.kind c.in-Ok.ensures,
+      le-leb (e.from + e.size) (length c.args.file.now) c.if-file-to.false,
+      sym (rw c.body.ensures at c.overlaps.ensures) ∙ c.if-overlaps.false,
+      c.in-Ok.ensures,
     )
     (rw n at r)
