@@ -1,8 +1,6 @@
 -- SPDX-License-Identifier: Apache-2.0
 -- The tests in the order of the numbers, each way by its law; and the event, which changes the image where it lies.
 use mathlib.Core.Path.{sym, ◌∙◌}
-use mathlib.Core.Bool.{true}
-use Rattle.fm3130_image.specs.Code.Accepting.{is_image}
 use Rattle.fm3130_image.proofs.Accepts.{image_read, image_not_read}
 use Rattle.c_step.proofs.Ways.{single_wrong_memory, single_wrong_image, single_unknown_event, single_short, single_answered, front_set}
 use Rattle.c_step.proofs.step.Goals as goal
