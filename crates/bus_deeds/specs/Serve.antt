@@ -2,7 +2,8 @@
 -- What an event asks of the companion, and what the companion makes of it. The rest of the event is that of a part with a
 -- hollow companion (law `split`).
 --   at_last, at_ends, clock_deed, deed_of   what is asked
---   Served, served_of                    the companion, and its reply
+--   Ways, ways_of                        a companion's functions, as an event asks for them
+--   Served, served_with, served_of       the companion once it did what it was asked, and its reply
 use Rattle.std.specs.Prelude.{ℕ, Bool, true, Option, Some, None}
 use Rattle.wire.specs.Bits.{pushed, Place, first, within, last, ack, place_at}
 use Rattle.wire.specs.Clock.{Taken}

@@ -17,6 +17,7 @@ use fm31_counters::map::{FIRST, LAST};
 use numbers::{ACCEPTED, Refusal};
 
 // The bytes of memory of a size.
+// Stays (plain): `size_of(size)` reads as its definition does, and a method would say no more.
 pub fn size_of(size: Size) -> u16
     ensures { result ≡ size_of size }
 {
