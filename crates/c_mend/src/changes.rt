@@ -5,6 +5,7 @@ ghost use Rattle.c_mend.specs.Changes.{change_of, changes_from};
 ghost use Rattle.c_mend.specs.Code.Changes.{WrittenAt};
 
 // Writes the three bytes of a register at a place, where its byte changed; returns the place after them.
+// Stays (C): fm3130_mend is lent one buffer for a list whose length is known only at its end.
 fn note(changes: &mut [u8], at: usize, number: u8, old: u8, new: u8) -> usize
     requires { at + length (change_of number old new) ≤ length changes.old }
     ensures { WrittenAt (change_of number old new) at changes.old result changes.new }

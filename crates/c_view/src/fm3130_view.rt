@@ -30,6 +30,7 @@ pub fn view<'a>(
 }
 
 // Its number on the same inputs.
+// Stays (fixed): a number, as the clause ViewNumberSettled and the theorem every_view_number say it.
 pub fn view_number(image: &[u8], memory: &[u8], selector: u8, start: usize, length: usize) -> u8
     ensures { ViewNumberSettled memory_size COUNT image.now memory.now selector start length result }
 {
