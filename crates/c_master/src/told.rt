@@ -88,10 +88,8 @@ fn put_flags(count: usize, answers: &[u8], flags: &mut [u8])
     ensures { flags.new ≡ sets flags.old 0 (list_of (flag_at (lines_of answers.now)) count) }
 {
     let ready = is_open(answers);
-    let mut i = 0;
-    while i < count {
+    for i in 0..count {
         flags[i] = flag(ready, answers, i);
-        i += 1;
     }
 }
 
@@ -100,10 +98,8 @@ fn put_bytes(count: usize, answers: &[u8], bytes: &mut [u8])
     requires { (39 + 9 * count ≤ length answers.now) × (count ≤ length bytes.old) }
     ensures { bytes.new ≡ sets bytes.old 0 (list_of (byte_at (lines_of answers.now)) count) }
 {
-    let mut i = 0;
-    while i < count {
+    for i in 0..count {
         bytes[i] = byte_from(answers, 38 + 9 * i);
-        i += 1;
     }
 }
 

@@ -53,12 +53,9 @@ fn lay(from: &[u8], events: &mut [u8], at: usize) -> usize
     requires { at + length from.now ≤ length events.old }
     ensures { Laid events.old at from.now result events.new }
 {
-    let mut i = 0;
-    while i < from.len() {
-        events[at + i] = from[i];
-        i += 1;
-    }
-    at + i
+    let end = at + from.len();
+    events[at..end].copy_from_slice(from);
+    end
 }
 
 // A byte, with the master's line at its ninth clock.
@@ -96,10 +93,8 @@ pub fn lay_written(bytes: &[u8], events: &mut [u8], at: usize) -> usize
     ensures { Laid events.old at (all_written bytes.now) result events.new }
 {
     let mut place = at;
-    let mut i = 0;
-    while i < bytes.len() {
-        place = lay_byte(bytes[i], true, events, place);
-        i += 1;
+    for byte in bytes {
+        place = lay_byte(*byte, true, events, place);
     }
     place
 }
@@ -110,10 +105,8 @@ pub fn lay_asked(count: usize, events: &mut [u8], at: usize) -> usize
     ensures { Laid events.old at (asked_on count) result events.new }
 {
     let mut place = at;
-    let mut i = 0;
-    while i < count {
+    for _i in 0..count {
         place = lay_byte(LEFT_HIGH, false, events, place);
-        i += 1;
     }
     place
 }

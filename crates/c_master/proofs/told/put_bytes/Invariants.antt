@@ -1,6 +1,5 @@
 -- SPDX-License-Identifier: Apache-2.0
 -- `c_master::told::put_bytes` meets its contract: the bytes so far stand at the front of the buffer.
-use Prim.Native.Nat.{◌≤◌, ◌-◌}
 use mathlib.Core.Path.{◌≡◌}
 use lib.ListN.{length}
 use lib.Seq.{sets}
@@ -9,7 +8,4 @@ use Rattle.c_master.specs.Told.{list_of, byte_at}
 use Rattle.c_master.proofs.told.put_bytes.Given as goal
 
 abbrev pub invariant-loop-i : goal.invariant-loop-i
-invariant-loop-i l = (l.i ≤ l.count) × (length l.bytes ≡ length l.initial.bytes) × (l.bytes ≡ sets l.initial.bytes 0 (list_of (byte_at (lines_of l.answers)) l.i))
-
-abbrev pub decreases-loop-i : goal.decreases-loop-i
-decreases-loop-i l = l.count - l.i
+invariant-loop-i l = (length l.bytes ≡ length l.initial.bytes) × (l.bytes ≡ sets l.initial.bytes 0 (list_of (byte_at (lines_of l.answers)) l.i))

@@ -1,6 +1,5 @@
 -- SPDX-License-Identifier: Apache-2.0
 -- `c_master::told::put_flags` meets its contract: the flags so far stand at the front of the buffer.
-use Prim.Native.Nat.{◌-◌}
 use mathlib.Core.Path.{◌≡◌}
 use native.Mathlib.Omega.{arith}
 use Rattle.wire_clocks.specs.Clocks.{lines_of}
@@ -16,8 +15,8 @@ pub loop-i-preserved : goal.loop-i-preserved
 loop-i-preserved c =
     let l = c.loop-i in
     let s = c in
-    (search rules, search rules, rw (c.flag.ensures, l.invariant.2) (listed_more s.args.flags.now (flag_at (lines_of s.args.answers.now)) l.i))
+    (search rules, rw (c.flag.ensures, l.invariant.1) (listed_more s.args.flags.now (flag_at (lines_of s.args.answers.now)) l.i))
 
 pub returns : goal.returns
 returns c =
-    let q : c.loop-i.i ≡ c.args.count = omega arith in rw q at c.loop-i.invariant.2
+    let q : c.loop-i.i ≡ c.args.count = omega arith in rw q at c.loop-i.invariant.1
