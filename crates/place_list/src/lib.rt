@@ -33,10 +33,8 @@ fn one_clock(
     ensures { Rowed events.now image.old memory.old answers.old from
         image.new memory.new answers.new result }
 {
-    let event = events[from];
-    let line = clock(image, memory, event == 3);
-    let pin = shown(image);
-    answers[from] = lined(pin, line);
+    let line = clock(image, memory, events[from] == 3);
+    answers[from] = lined(shown(image), line);
     from + 1
 }
 
@@ -94,8 +92,7 @@ fn single(
     ensures { Rowed events.now image.old memory.old answers.old from
         image.new memory.new answers.new result }
 {
-    let event = events[from];
-    let answer = happen(image, memory, event);
+    let answer = happen(image, memory, events[from]);
     answers[from] = answer;
     from + 1
 }
