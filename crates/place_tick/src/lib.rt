@@ -1,5 +1,6 @@
 // SPDX-License-Identifier: Apache-2.0
 // A one-second tick of the companion where it lies, in its image.
+// Stays (C): the image is a slice, as C lends it, so that its length is a fact and no type.
 #![tactic(auto)]
 
 ghost use Rattle.std.specs.Prelude.{◌≡◌, true, length};
