@@ -4,6 +4,7 @@
 // places  where an image holds what
 // read    the state in an image, and its parts
 // write   a state's image, whole or over another's
+// Stays (C): the image is a slice, as C lends it, so that its length is a fact and no type.
 #![tactic(auto)]
 
 use fm3130::MEMORY_SIZE;

@@ -3,7 +3,7 @@
 -- the line high.
 use Prim.Native.Nat.{ℕ, ◌+◌, ◌*◌, ◌/◌}
 use mathlib.Core.Path.{◌≡◌, refl}
-use mathlib.Core.Bool.{Bool, true, false, cond, false≢true}
+use mathlib.Core.Bool.{Bool, true, cond, false≢true}
 use lib.Dec.{eqb}
 use mathlib.Core.List.{List, []}
 use native.Mathlib.Omega.{arith}

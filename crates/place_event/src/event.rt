@@ -41,10 +41,7 @@ pub fn lined(shown: u8, line: bool) -> u8
     requires { shown ≤ 14 }
     ensures { result ≡ shown + cond line 1 0 }
 {
-    if line {
-        return shown + 1;
-    }
-    shown
+    shown + u8::from(line)
 }
 
 // Start: begins a slave byte, whatever was under way. Heard only while main power is present.
@@ -163,7 +160,7 @@ pub fn tell(image: &mut [u8], memory: &mut [u8], event: u8) -> Told
         let rolled = second(image);
         return Told {
             answer: lined(shown(image), true),
-            rolled: rolled,
+            rolled,
         };
     }
     Told {

@@ -1,6 +1,7 @@
 // SPDX-License-Identifier: Apache-2.0
 // The device where it lies, in its image: an event changes the bytes that it must and no others. Nothing is read out of
 // the image to be written back.
+// Stays (C): the lent buffers are slices, each by itself, as C hands them over; `Accepted` carries both lengths.
 #![tactic(auto)]
 
 use calendar::Rolled;

@@ -1,5 +1,6 @@
 // SPDX-License-Identifier: Apache-2.0
 // What of a list of events is done next: a row of them where there is one, or one event.
+// Stays (C): the lent buffers are slices, each by itself, as C hands them over; `Accepted` carries both lengths.
 #![tactic(auto)]
 
 ghost use Rattle.std.specs.Prelude.{◌≡◌, true, false, cond, ◌/◌, ◌<◌, ◌≤◌, eqb, length, get_or};
@@ -33,10 +34,8 @@ fn one_clock(
     ensures { Rowed events.now image.old memory.old answers.old from
         image.new memory.new answers.new result }
 {
-    let event = events[from];
-    let line = clock(image, memory, event == 3);
-    let pin = shown(image);
-    answers[from] = lined(pin, line);
+    let line = clock(image, memory, events[from] == 3);
+    answers[from] = lined(shown(image), line);
     from + 1
 }
 
@@ -94,8 +93,7 @@ fn single(
     ensures { Rowed events.now image.old memory.old answers.old from
         image.new memory.new answers.new result }
 {
-    let event = events[from];
-    let answer = happen(image, memory, event);
+    let answer = happen(image, memory, events[from]);
     answers[from] = answer;
     from + 1
 }

@@ -1,6 +1,7 @@
 // SPDX-License-Identifier: Apache-2.0
 // Rows of events that are done together: Clocks inside a byte, Clocks that nobody hears, ticks of a core that was tested
 // once. Each function returns the place after the last event that it did. The rows of Clocks are those of every part.
+// Stays (C): the lent buffers are slices, each by itself, as C hands them over; `Accepted` carries both lengths.
 #![tactic(auto)]
 
 ghost use Rattle.std.specs.Prelude.{◌≡◌, true, ◌+◌, ◌/◌, ◌<◌, ◌≤◌, length, get_or};
@@ -18,6 +19,7 @@ use place_tick::{counted, unsaid};
 use wire::bits::sending_line;
 
 // The first seven bits of a byte that comes in: they are only kept.
+#[tactic(auto, using(fm3130_image::proofs::Accepts::image_long))]
 pub fn receive_row(image: &mut [u8], events: &[u8], answers: &mut [u8], from: usize) -> usize
     requires image_value { is_image image.old ≡ true }
     requires bound { (IDLE < get_or image.old PHASE_AT 0) × (get_or image.old PHASE_AT 0 < READ_MEMORY) × (get_or image.old CLOCKS_AT 0 < 7) }
@@ -30,6 +32,7 @@ pub fn receive_row(image: &mut [u8], events: &[u8], answers: &mut [u8], from: us
 }
 
 // The second to seventh bit of a byte that goes out.
+#[tactic(auto, using(fm3130_image::proofs::Accepts::image_long))]
 pub fn send_row(image: &mut [u8], events: &[u8], answers: &mut [u8], from: usize) -> usize
     requires image_value { is_image image.old ≡ true }
     requires bound { (WRITE_COMPANION < get_or image.old PHASE_AT 0) × (0 < get_or image.old CLOCKS_AT 0) × (get_or image.old CLOCKS_AT 0 < 7) }
@@ -42,6 +45,7 @@ pub fn send_row(image: &mut [u8], events: &[u8], answers: &mut [u8], from: usize
 }
 
 // Clocks that nobody hears.
+#[tactic(auto, using(fm3130_image::proofs::Accepts::image_long))]
 pub fn idle_row(image: &[u8], events: &[u8], answers: &mut [u8], from: usize) -> usize
     requires image_value { (is_image image.now ≡ true) × (get_or image.now PHASE_AT 0 ≡ IDLE) }
     requires from_in_bounds { (from ≤ length events.now) × (length events.now ≤ length answers.old) }

@@ -1,5 +1,6 @@
 // SPDX-License-Identifier: Apache-2.0
 // A one-second tick of the companion where it lies, in its image.
+// Stays (C): the image is a slice, as C lends it, so that its length is a fact and no type.
 #![tactic(auto)]
 
 ghost use Rattle.std.specs.Prelude.{◌≡◌, true, length};
@@ -84,14 +85,11 @@ fn carried(image: &mut [u8]) -> Rolled
         → (result ≡ (next_of s.companion.core).rolled)
         × (image.new ≡ image_of (with_companion s (counted_of s.companion))) }
 {
-    let core = calendar_at(image, CORE_SECONDS_AT);
-    let next = core.next();
-    let later = next.calendar;
-    let rolled = next.rolled;
-    put_core(image, later);
+    let next = calendar_at(image, CORE_SECONDS_AT).next();
+    put_core(image, next.calendar);
     let rung = rings(image);
     tell(image, rung, next.century);
-    rolled
+    next.rolled
 }
 
 // A tick that counts, of a valid core. 59 of 60 move the seconds alone.
@@ -120,8 +118,7 @@ pub fn tick(image: &mut [u8]) -> Rolled
     if has(image[TRIM_AT], OSCEN) {
         return Rolled::Nothing;
     }
-    let core = calendar_at(image, CORE_SECONDS_AT);
-    if core.is_valid() {
+    if calendar_at(image, CORE_SECONDS_AT).is_valid() {
         return counted(image);
     }
     tell(image, false, false);
@@ -146,6 +143,5 @@ pub fn is_ticking(image: &[u8]) -> bool
     if has(image[TRIM_AT], OSCEN) {
         return false;
     }
-    let core = calendar_at(image, CORE_SECONDS_AT);
-    core.is_valid()
+    calendar_at(image, CORE_SECONDS_AT).is_valid()
 }

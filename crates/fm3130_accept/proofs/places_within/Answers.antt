@@ -6,15 +6,13 @@ use Rattle.fm3130_accept.proofs.places_within.Goals as goal
 
 pub returns : goal.returns
 returns c =
-    let w = c in
-    let k = w in
-    let i = k.args.image.now in
+    let i = c.args.image.now in
     rw (
-      w.word-from_control.ensures,
-      w.word-from_hours.ensures,
-      w.word-from_year.ensures,
-      w.word-from_alarm_date.ensures,
-      w.word-from_core_minutes.ensures,
-      w.word-from_core_day.ensures,
+      c.word-from_control.ensures,
+      c.word-from_hours.ensures,
+      c.word-from_year.ensures,
+      c.word-from_alarm_date.ensures,
+      c.word-from_core_minutes.ensures,
+      c.word-from_core_day.ensures,
     )
-    (places_tested i (λ n. omega (arith, k.shared_slice_known-1.given n)))
+    (places_tested i (λ n. omega (arith, c.shared_slice_known-1.given n)))

@@ -12,5 +12,4 @@ bounds-image-at c = let l = c.requires.0 in let h = c.requires.1 in omega arith
 pub returns : goal.returns
 unfolding image_of
 returns c s e =
-    let start = c in
-    let l : s.companion.address ≤ 14 = rw e at start.requires.1 in rw e (load_at s l)
+    let l : s.companion.address ≤ 14 = rw e at c.requires.1 in rw e (load_at s l)

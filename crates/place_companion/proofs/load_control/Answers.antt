@@ -13,9 +13,8 @@ use Rattle.place_companion.proofs.load_control.Goals as goal
 pub returns-then-not-is_valid : goal.returns-then-not-is_valid
 unfolding image_of calendar_at
 returns-then-not-is_valid c s e =
-    let f = c in
     let v : is_valid s.companion.registers.time ≡ false =
-    rw (f.calendar_at-time.ensures, e) at (sym c.is_valid.ensures ∙ c.if-not-is_valid.true) in
+    rw (c.calendar_at-time.ensures, e) at (sym c.is_valid.ensures ∙ c.if-not-is_valid.true) in
     rw e (load_refused s _ v)
 
 pub load_core-requires : goal.load_core-requires
@@ -27,14 +26,8 @@ shape_of-image c = rw c.image-1.given (simp length-set)
 pub returns : goal.returns
 unfolding image_of calendar_at
 returns c s e =
-    let f = c in
-    let k = f in
-    let b = k in
-    let u = b in
-    let w = u in
-    let start = w in
     let v : is_valid s.companion.registers.time ≡ true =
-    rw (w.calendar_at-time.ensures, e) at (sym u.is_valid.ensures ∙ b.if-not-is_valid.false) in
+    rw (c.calendar_at-time.ensures, e) at (sym c.is_valid.ensures ∙ c.if-not-is_valid.false) in
     load_taken s _ v
-    (f.load_core.ensures (with_companion s (control_put s.companion start.args.byte))
-    (rw (k.control_after.ensures, e) refl))
+    (c.load_core.ensures (with_companion s (control_put s.companion c.args.byte))
+    (rw (c.control_after.ensures, e) refl))

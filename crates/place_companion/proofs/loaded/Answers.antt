@@ -25,10 +25,8 @@ shape_of-image-then-address-eq-CONTROL c = simp length-set
 pub returns-then-address-eq-CONTROL : goal.returns-then-address-eq-CONTROL
 unfolding image_of
 returns-then-address-eq-CONTROL c s e =
-    let f = c in
-    let k = f in
-    let a : eqb s.companion.address 0 ≡ true = rw e at (eq-eqb _ _ f.if-address-eq-CONTROL.true) in
-    rw (c.flags_after.ensures, k.next_address.ensures, e) (loaded_control s _ a)
+    let a : eqb s.companion.address 0 ≡ true = rw e at (eq-eqb _ _ c.if-address-eq-CONTROL.true) in
+    rw (c.flags_after.ensures, c.next_address.ensures, e) (loaded_control s _ a)
 
 pub shape_of-image-else-address-eq-CONTROL : goal.shape_of-image-else-address-eq-CONTROL
 shape_of-image-else-address-eq-CONTROL c = simp length-set

@@ -29,13 +29,10 @@ shape_of-image-then-address-eq-CONTROL c = rw c.image-1.given (simp length-set)
 pub returns-then-address-eq-CONTROL : goal.returns-then-address-eq-CONTROL
 unfolding image_of
 returns-then-address-eq-CONTROL c s e =
-    let f = c in
-    let k = f in
-    let b = k in
-    let a : eqb s.companion.address 0 ≡ true = rw e at (eq-eqb _ _ k.if-address-eq-CONTROL.true) in
+    let a : eqb s.companion.address 0 ≡ true = rw e at (eq-eqb _ _ c.if-address-eq-CONTROL.true) in
     took_as (store_control s.companion _ a)
     (took_from s (stepped_of s.companion)
-    (f.store_control.ensures (with_companion s (stepped_of s.companion)) (rw (b.next_address.ensures, e) refl)))
+    (c.store_control.ensures (with_companion s (stepped_of s.companion)) (rw (c.next_address.ensures, e) refl)))
 
 pub bounds-image-0 : goal.bounds-image-0
 bounds-image-0 c = let l = c.requires.0 in simp length-set (omega arith)
@@ -54,13 +51,10 @@ shape_of-image-then-address-eq-TRIM c = simp length-set
 pub returns-then-address-eq-TRIM : goal.returns-then-address-eq-TRIM
 unfolding image_of
 returns-then-address-eq-TRIM c s e =
-    let f = c in
-    let k = f in
-    let b = k in
-    let n : eqb s.companion.address 0 ≡ false = rw e at (ne_eqb _ _ k.if-address-eq-CONTROL.false) in
-    let a : eqb s.companion.address 1 ≡ true = rw e at (eq-eqb _ _ f.if-address-eq-TRIM.true) in
+    let n : eqb s.companion.address 0 ≡ false = rw e at (ne_eqb _ _ c.if-address-eq-CONTROL.false) in
+    let a : eqb s.companion.address 1 ≡ true = rw e at (eq-eqb _ _ c.if-address-eq-TRIM.true) in
     took_as (store_trim s.companion _ n a)
-    (took_whole s _ (rw (c.trim_after.ensures, b.next_address.ensures, e) refl))
+    (took_whole s _ (rw (c.trim_after.ensures, c.next_address.ensures, e) refl))
 
 pub bounds-image-0-2 : goal.bounds-image-0-2
 bounds-image-0-2 c = let l = c.requires.0 in simp length-set (omega arith)
@@ -71,15 +65,12 @@ shape_of-image-then-address-has c = simp length-set
 pub returns-then-address-has : goal.returns-then-address-has
 unfolding image_of
 returns-then-address-has c s e =
-    let f = c in
-    let k = f in
-    let b = k in
-    let n : eqb s.companion.address 0 ≡ false = rw e at (ne_eqb _ _ k.if-address-eq-CONTROL.false) in
-    let m : eqb s.companion.address 1 ≡ false = rw e at (ne_eqb _ _ f.if-address-eq-TRIM.false) in
+    let n : eqb s.companion.address 0 ≡ false = rw e at (ne_eqb _ _ c.if-address-eq-CONTROL.false) in
+    let m : eqb s.companion.address 1 ≡ false = rw e at (ne_eqb _ _ c.if-address-eq-TRIM.false) in
     let t : (leb s.companion.address 8 && not (has s.companion.registers.control W)) ≡ true =
     rw (c.has.ensures, e) at c.if-address-has.true in
     took_as (store_none s.companion _ n m t)
-    (took_whole s (stepped_of s.companion) (rw (b.next_address.ensures, e) refl))
+    (took_whole s (stepped_of s.companion) (rw (c.next_address.ensures, e) refl))
 
 pub overflow_cast-at : goal.overflow_cast-at
 overflow_cast-at c = let h = c.requires.1 in search rules
@@ -100,16 +91,11 @@ shape_of-image c = simp length-set
 pub returns : goal.returns
 unfolding image_of
 returns c s e =
-    let f = c in
-    let k = f in
-    let b = k in
-    let u = b in
-    let start = u in
-    let n : eqb s.companion.address 0 ≡ false = rw e at (ne_eqb _ _ b.if-address-eq-CONTROL.false) in
-    let m : eqb s.companion.address 1 ≡ false = rw e at (ne_eqb _ _ k.if-address-eq-TRIM.false) in
+    let n : eqb s.companion.address 0 ≡ false = rw e at (ne_eqb _ _ c.if-address-eq-CONTROL.false) in
+    let m : eqb s.companion.address 1 ≡ false = rw e at (ne_eqb _ _ c.if-address-eq-TRIM.false) in
     let t : (leb s.companion.address 8 && not (has s.companion.registers.control W)) ≡ false =
-    rw (f.has.ensures, e) at c.if-address-has.false in
-    let l : s.companion.address ≤ 14 = rw e at start.requires.1 in
+    rw (c.has.ensures, e) at c.if-address-has.false in
+    let l : s.companion.address ≤ 14 = rw e at c.requires.1 in
     took_as (store_byte s.companion _ n m t)
-    (took_whole s _ (rw (c.stored.ensures, u.next_address.ensures, e)
+    (took_whole s _ (rw (c.stored.ensures, c.next_address.ensures, e)
     (register_put s _ _ s.companion.address (omega arith))))

@@ -13,13 +13,9 @@ use Rattle.place_companion.proofs.store_control.Goals as goal
 pub returns-then-w_falls : goal.returns-then-w_falls
 unfolding image_of
 returns-then-w_falls c s e =
-    let f = c in
-    let k = f in
-    let b = k in
-    let start = b in
-    let w : w_falls s.companion.registers.control start.args.byte ≡ true =
-    rw e at (sym b.w_falls.ensures ∙ k.if-w_falls.true) in
-    took_as (loaded_taken s.companion _ w) (f.load_control.ensures s e)
+    let w : w_falls s.companion.registers.control c.args.byte ≡ true =
+    rw e at (sym c.w_falls.ensures ∙ c.if-w_falls.true) in
+    took_as (loaded_taken s.companion _ w) (c.load_control.ensures s e)
 
 pub shape_of-image-then-not-shows_core : goal.shape_of-image-then-not-shows_core
 shape_of-image-then-not-shows_core c = simp length-set
@@ -27,16 +23,12 @@ shape_of-image-then-not-shows_core c = simp length-set
 pub returns-then-not-shows_core : goal.returns-then-not-shows_core
 unfolding image_of
 returns-then-not-shows_core c s e =
-    let f = c in
-    let k = f in
-    let b = k in
-    let start = b in
-    let w : w_falls s.companion.registers.control start.args.byte ≡ false =
-    rw e at (sym b.w_falls.ensures ∙ k.if-w_falls.false) in
-    let h : shows_core s.companion.registers.control start.args.byte ≡ false =
+    let w : w_falls s.companion.registers.control c.args.byte ≡ false =
+    rw e at (sym c.w_falls.ensures ∙ c.if-w_falls.false) in
+    let h : shows_core s.companion.registers.control c.args.byte ≡ false =
     rw e at (sym c.shows_core.ensures ∙ c.if-not-shows_core.true) in
     took_as (put_taken s.companion _ w h)
-    (took_whole s (control_put s.companion start.args.byte) (rw (f.control_after.ensures, e) refl))
+    (took_whole s (control_put s.companion c.args.byte) (rw (c.control_after.ensures, e) refl))
 
 pub show_core-requires : goal.show_core-requires
 show_core-requires c = simp length-set c.requires
@@ -47,18 +39,11 @@ shape_of-image c = rw c.image-2-1.given (simp length-set)
 pub returns : goal.returns
 unfolding image_of
 returns c s e =
-    let f = c in
-    let k = f in
-    let b = k in
-    let u = b in
-    let x = u in
-    let y = x in
-    let start = y in
-    let w : w_falls s.companion.registers.control start.args.byte ≡ false =
-    rw e at (sym y.w_falls.ensures ∙ x.if-w_falls.false) in
-    let h : shows_core s.companion.registers.control start.args.byte ≡ true =
-    rw e at (sym b.shows_core.ensures ∙ k.if-not-shows_core.false) in
+    let w : w_falls s.companion.registers.control c.args.byte ≡ false =
+    rw e at (sym c.w_falls.ensures ∙ c.if-w_falls.false) in
+    let h : shows_core s.companion.registers.control c.args.byte ≡ true =
+    rw e at (sym c.shows_core.ensures ∙ c.if-not-shows_core.false) in
     took_as (shown_taken s.companion _ w h)
-    (took_whole s (core_shown (control_put s.companion start.args.byte))
-    (f.show_core.ensures (with_companion s (control_put s.companion start.args.byte))
-    (rw (u.control_after.ensures, e) refl)))
+    (took_whole s (core_shown (control_put s.companion c.args.byte))
+    (c.show_core.ensures (with_companion s (control_put s.companion c.args.byte))
+    (rw (c.control_after.ensures, e) refl)))

@@ -10,8 +10,7 @@ is_ticking-requires c = image_long _ c.requires
 
 pub returns-then-event-eq4 : goal.returns-then-event-eq4
 returns-then-event-eq4 c =
-    let at3 = c in
-    rw (eq-eqb _ _ c.if-event-eq4.true) (c.is_ticking.ensures _ (sym (image_written _ at3.requires)))
+    rw (eq-eqb _ _ c.if-event-eq4.true) (c.is_ticking.ensures _ (sym (image_written _ c.requires)))
 
 pub returns : goal.returns
 returns c = rw (ne_eqb _ _ c.if-event-eq4.false)

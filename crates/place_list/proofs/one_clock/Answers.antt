@@ -14,24 +14,20 @@ bounds-events-from c = c.requires.from_in_bounds.0
 pub clock-line-requires : goal.clock-line-requires
 clock-line-requires c = c.requires.accepted
 
-pub shown-pin-requires : goal.shown-pin-requires
-shown-pin-requires c = ap length c.clock-line.ensures.image ∙ image_length _
+pub shown-requires : goal.shown-requires
+shown-requires c = ap length c.clock-line.ensures.image ∙ image_length _
 
 pub lined-requires : goal.lined-requires
 lined-requires c =
-    (shown_both c.shown-pin.ensures _ c.clock-line.ensures.image).1
+    (shown_both c.shown.ensures _ c.clock-line.ensures.image).1
 
 pub bounds-answers-from : goal.bounds-answers-from
 bounds-answers-from c =
-    let at8 = c in
-    let s = at8 in
-    omega (arith, s.requires.from_in_bounds.0, s.requires.from_in_bounds.1)
+    omega (arith, c.requires.from_in_bounds.0, c.requires.from_in_bounds.1)
 
 pub returns : goal.returns
 returns c =
-    let at7 = c in
-    let s = at7 in
-    let h = s.requires.from_in_bounds in
-    let k = at7.clock-line.ensures in
-    row_clock _ _ _ _ _ s.requires.accepted h.0 h.1 h.2 s.requires.bound _ _ _ _ _ k (shown_both c.shown-pin.ensures _ k.image).0
+    let h = c.requires.from_in_bounds in
+    let k = c.clock-line.ensures in
+    row_clock _ _ _ _ _ c.requires.accepted h.0 h.1 h.2 c.requires.bound _ _ _ _ _ k (shown_both c.shown.ensures _ k.image).0
     c.lined.ensures

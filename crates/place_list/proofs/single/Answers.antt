@@ -6,10 +6,8 @@ use Rattle.place_list.proofs.single.Goals as goal
 
 pub happen-answer-requires : goal.happen-answer-requires
 happen-answer-requires c =
-    let s = c in
-    record { accepted = s.requires.accepted; event_bound = known_at s.args.events.now s.requires.events_value.0 s.args.from s.requires.events_value.1 }
+    record { accepted = c.requires.accepted; event_bound = known_at c.args.events.now c.requires.events_value.0 c.args.from c.requires.events_value.1 }
 
 pub returns : goal.returns
 returns c =
-    let s = c in
-    rowed_one _ _ _ _ _ _ _ _ s.requires.accepted s.requires.events_value.1 s.requires.events_value.2 c.happen-answer.ensures
+    rowed_one _ _ _ _ _ _ _ _ c.requires.accepted c.requires.events_value.1 c.requires.events_value.2 c.happen-answer.ensures

@@ -12,8 +12,7 @@ bounds-events-from c = c.requires.events_value.1
 
 pub clocks-requires : goal.clocks-requires
 clocks-requires c =
-    let s = c in
-    record { accepted = s.requires.accepted; from_in_bounds = (s.requires.events_value.1, s.requires.events_value.2, c.if-event-eq1.true) }
+    record { accepted = c.requires.accepted; from_in_bounds = (c.requires.events_value.1, c.requires.events_value.2, c.if-event-eq1.true) }
 
 pub returns-then-event-eq1 : goal.returns-then-event-eq1
 returns-then-event-eq1 c = c.clocks.ensures
@@ -23,26 +22,20 @@ moves-requires c = c.requires.accepted.image
 
 pub tick_row-requires : goal.tick_row-requires
 tick_row-requires c =
-    let s = c in
-    let f = moves_facts (candidate s.args.image.now) (get_or s.args.events.now s.args.from 0)
+    let f = moves_facts (candidate c.args.image.now) (get_or c.args.events.now c.args.from 0)
     (sym c.moves.ensures ∙ c.if-moves.true) in
-    record { image_value = (s.requires.accepted.image, f.1); from_in_bounds = (omega (arith, s.requires.events_value.1), s.requires.events_value.2) }
+    record { image_value = (c.requires.accepted.image, f.1); from_in_bounds = (omega (arith, c.requires.events_value.1), c.requires.events_value.2) }
 
 pub returns-then-moves : goal.returns-then-moves
 returns-then-moves c =
-    let at4 = c in
-    let at7 = at4 in
-    let at8 = at7 in
-    let s = at8 in
-    let f = moves_facts (candidate s.args.image.now) (get_or s.args.events.now s.args.from 0)
-    (sym at8.moves.ensures ∙ at7.if-moves.true) in
-    let e = at4.tick_row.ensures in
-    row_done _ _ _ _ _ s.requires.accepted s.requires.events_value.1 _ _ _ e.0 (e.1 s.requires.events_value.1 f.0)
+    let f = moves_facts (candidate c.args.image.now) (get_or c.args.events.now c.args.from 0)
+    (sym c.moves.ensures ∙ c.if-moves.true) in
+    let e = c.tick_row.ensures in
+    row_done _ _ _ _ _ c.requires.accepted c.requires.events_value.1 _ _ _ e.0 (e.1 c.requires.events_value.1 f.0)
 
 pub single-requires : goal.single-requires
 single-requires c =
-    let s = c in
-    record { accepted = s.requires.accepted; events_value = s.requires.events_value }
+    record { accepted = c.requires.accepted; events_value = c.requires.events_value }
 
 pub returns : goal.returns
 returns c = c.single.ensures

@@ -1,13 +1,10 @@
 -- SPDX-License-Identifier: Apache-2.0
 -- The row of every part, with what the pin shows.
 use mathlib.Core.Path.{sym}
-use Rattle.fm3130_image.proofs.Accepts.{image_long, image_written}
+use Rattle.fm3130_image.proofs.Accepts.{image_written}
 use Rattle.place_rows.proofs.Rowing.{shown_both}
 use Rattle.place_rows.proofs.Rows.{idle_clocked}
 use Rattle.place_rows.proofs.idle_row.Goals as goal
-
-pub shown-requires : goal.shown-requires
-shown-requires c = image_long _ c.requires.image_value.0
 
 pub returns : goal.returns
 returns c =

@@ -1,16 +1,10 @@
 -- SPDX-License-Identifier: Apache-2.0
 -- The row of every part, with what the pin shows.
 use mathlib.Core.Path.{sym}
-use Rattle.fm3130_image.proofs.Accepts.{image_long, image_written}
+use Rattle.fm3130_image.proofs.Accepts.{image_written}
 use Rattle.place_rows.proofs.Rowing.{shown_both}
 use Rattle.place_rows.proofs.Rows.{sent_clocked}
 use Rattle.place_rows.proofs.send_row.Goals as goal
-
-pub shown-pin-requires : goal.shown-pin-requires
-shown-pin-requires c = image_long _ c.requires.image_value
-
-pub send_row-requires-clause-image_len : goal.send_row-requires-clause-image_len
-send_row-requires-clause-image_len c = (image_long _ c.requires.image_value, c.requires.bound.2, c.shown-pin.ensures.1)
 
 pub returns : goal.returns
 returns c =

@@ -13,16 +13,11 @@ use Rattle.place_tick.proofs.carried.Goals as goal
 pub returns : goal.returns
 unfolding image_of calendar_at
 returns c s e v =
-    let f = c in
-    let k = f in
-    let b = k in
-    let u = b in
-    let w = u in
-    let a : u.next-next.result ≡ next_of s.companion.core = u.next-next.ensures ∙ rw (w.calendar_at-core.ensures, e) refl in
-    let q = with_companion s (with_core s.companion u.next-next.result.calendar) in
-    let p = b.put_core.ensures s e in
-    let g = k.rings-rung.ensures q p in
-    let t = f.tell.ensures q p in (
+    let a : c.next-next.result ≡ next_of s.companion.core = c.next-next.ensures ∙ rw (c.calendar_at.ensures, e) refl in
+    let q = with_companion s (with_core s.companion c.next-next.result.calendar) in
+    let p = c.put_core.ensures s e in
+    let g = c.rings-rung.ensures q p in
+    let t = c.tell.ensures q p in (
       ap (λ (x : Advanced). x.rolled) a,
       t ∙ rw (g, a) (ap (λ (x : Companion). image_of (with_companion s x)) (counted_parts s.companion v)),
     )

@@ -11,8 +11,7 @@ use Rattle.place_tick.proofs.counted.Goals as goal
 
 pub returns-then-seconds-eq89 : goal.returns-then-seconds-eq89
 returns-then-seconds-eq89 c s e v =
-    let f = c in
-    f.carried.ensures s e v
+    c.carried.ensures s e v
 
 pub rings-rung-requires : goal.rings-rung-requires
 rings-rung-requires c = simp length-set c.requires
@@ -26,13 +25,9 @@ shape_of-image c = rw c.image-2-1.given (simp length-set)
 pub returns : goal.returns
 unfolding image_of
 returns c s e v =
-    let f = c in
-    let k = f in
-    let b = k in
-    let u = b in
-    let n = seconds_next s.companion.core v (λ z. u.if-seconds-eq89.false (rw e z)) in
+    let n = seconds_next s.companion.core v (λ z. c.if-seconds-eq89.false (rw e z)) in
     let m = with_seconds s.companion.core (one_more s.companion.core.seconds) in
     let q = with_companion s (with_core s.companion m) in
-    let g = k.rings-rung.ensures q (rw (b.one_more.ensures, e) refl) in
-    let t = f.tell.ensures q (rw (b.one_more.ensures, e) refl) in
+    let g = c.rings-rung.ensures q (rw (c.one_more.ensures, e) refl) in
+    let t = c.tell.ensures q (rw (c.one_more.ensures, e) refl) in
     (ap (λ (x : Advanced). x.rolled) (sym n), t ∙ rw g (seconds_parts s v n))

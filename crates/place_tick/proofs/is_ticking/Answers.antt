@@ -1,7 +1,6 @@
 -- SPDX-License-Identifier: Apache-2.0
 -- The three tests.
 use Rattle.std.proofs.Common.{sym, refl, ◌∙◌}
-use Rattle.bits.specs.Weight.{has}
 use Rattle.fm3130_image.specs.Image.{image_of, calendar_at}
 use Rattle.place_tick.proofs.Ticks.{ticks_dark, ticks_stopped, ticks_valid}
 use Rattle.place_tick.proofs.is_ticking.Goals as goal
@@ -17,8 +16,5 @@ returns-then-has c s e = ticks_stopped s (rw e at (sym c.has.ensures ∙ c.if-ha
 pub returns : goal.returns
 unfolding image_of calendar_at
 returns c s e =
-    let f = c in
-    let k = f in
-    let b = k in
-    ticks_valid s (λ z. b.if-image-eq-POWER_OFF.false (rw e z)) (rw e at (sym k.has.ensures ∙ f.if-has.false))
-    (c.is_valid.ensures ∙ rw (c.calendar_at-core.ensures, e) refl)
+    ticks_valid s (λ z. c.if-image-eq-POWER_OFF.false (rw e z)) (rw e at (sym c.has.ensures ∙ c.if-has.false))
+    (c.is_valid.ensures ∙ rw (c.calendar_at.ensures, e) refl)

@@ -15,11 +15,6 @@ returns-then-not-agrees c s e =
 pub returns : goal.returns
 unfolding image_of
 returns c s e =
-    let f = c in
-    let k = f in
-    let b = k in
-    let u = b in
-    let w = u in
     let a : agrees s.companion.registers.alarm.seconds s.companion.core.seconds ≡ true =
-    rw e at (sym w.agrees.ensures ∙ u.if-not-agrees.false) in
-    rw (a, c.agrees-5.ensures, f.agrees-4.ensures, k.agrees-3.ensures, b.agrees-2.ensures, e) refl
+    rw e at (sym c.agrees.ensures ∙ c.if-not-agrees.false) in
+    rw (a, c.agrees-5.ensures, c.agrees-4.ensures, c.agrees-3.ensures, c.agrees-2.ensures, e) refl

@@ -16,11 +16,9 @@ shape_of-image-then-has c = simp length-set
 pub returns-then-has : goal.returns-then-has
 unfolding image_of
 returns-then-has c s e =
-    let f = c in
-    let k = f in
     let t : (has s.companion.registers.control W || has s.companion.registers.control R) ≡ true =
-    rw (f.has.ensures, c.has-2.ensures, e) at c.if-has.true in
-    rw (k.told.ensures, e) (tell_kept s _ _ t)
+    rw (c.has.ensures, c.has-2.ensures, e) at c.if-has.true in
+    rw (c.told.ensures, e) (tell_kept s _ _ t)
 
 pub show_core-requires : goal.show_core-requires
 show_core-requires c = simp length-set c.requires
@@ -31,16 +29,10 @@ shape_of-image c = rw c.image-1.given (simp length-set)
 pub returns : goal.returns
 unfolding image_of
 returns c s e =
-    let f = c in
-    let k = f in
-    let b = k in
-    let u = b in
-    let w = u in
-    let start = w in
     let t : (has s.companion.registers.control W || has s.companion.registers.control R) ≡ false =
-    rw (u.has.ensures, b.has-2.ensures, e) at k.if-has.false in
-    f.show_core.ensures
+    rw (c.has.ensures, c.has-2.ensures, e) at c.if-has.false in
+    c.show_core.ensures
     (with_companion s (with_registers s.companion (with_time s.companion.registers
-    (told_of s.companion.registers.control start.args.rung start.args.century) s.companion.registers.time)))
-    (rw (w.told.ensures, e) refl)
+    (told_of s.companion.registers.control c.args.rung c.args.century) s.companion.registers.time)))
+    (rw (c.told.ensures, e) refl)
     ∙ tell_shown s _ _ t

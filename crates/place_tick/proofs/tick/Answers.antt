@@ -17,27 +17,15 @@ returns-then-has c s e =
 pub returns-then-is_valid : goal.returns-then-is_valid
 unfolding image_of calendar_at
 returns-then-is_valid c s e =
-    let f = c in
-    let k = f in
-    let b = k in
-    let u = b in
-    let w = u in
-    let x = w in
-    let o : has s.companion.registers.trim OSCEN ≡ false = rw e at (sym x.has.ensures ∙ w.if-has.false) in
+    let o : has s.companion.registers.trim OSCEN ≡ false = rw e at (sym c.has.ensures ∙ c.if-has.false) in
     let v : is_valid s.companion.core ≡ true =
-    rw (u.calendar_at-core.ensures, e) at (sym b.is_valid.ensures ∙ k.if-is_valid.true) in
-    tick_counts s o (f.counted.ensures s e v)
+    rw (c.calendar_at.ensures, e) at (sym c.is_valid.ensures ∙ c.if-is_valid.true) in
+    tick_counts s o (c.counted.ensures s e v)
 
 pub returns : goal.returns
 unfolding image_of calendar_at
 returns c s e =
-    let f = c in
-    let k = f in
-    let b = k in
-    let u = b in
-    let w = u in
-    let x = w in
-    let o : has s.companion.registers.trim OSCEN ≡ false = rw e at (sym x.has.ensures ∙ w.if-has.false) in
+    let o : has s.companion.registers.trim OSCEN ≡ false = rw e at (sym c.has.ensures ∙ c.if-has.false) in
     let v : is_valid s.companion.core ≡ false =
-    rw (u.calendar_at-core.ensures, e) at (sym b.is_valid.ensures ∙ k.if-is_valid.false) in
-    tick_rest s o v (f.tell.ensures s e)
+    rw (c.calendar_at.ensures, e) at (sym c.is_valid.ensures ∙ c.if-is_valid.false) in
+    tick_rest s o v (c.tell.ensures s e)

@@ -7,9 +7,8 @@ use Rattle.fm3130_image.proofs.write.write_over.Goals as goal
 pub returns : goal.returns
 unfolding image_of listed
 returns c =
-    let s = c in
     rw (
       c.write_bus.ensures,
       c.write_companion.ensures,
-      ← front_end s.args.image.now s.requires.0 s.requires.1,
+      ← front_end c.args.image.now c.requires.0 c.requires.1,
     )

@@ -15,8 +15,7 @@ bounds-image-24 c = let l = accepted_long c.requires in omega arith
 
 pub overflow_add-next : goal.overflow_add-next
 overflow_add-next c =
-    let s = c in
-    let a = (accepted_places s.requires).1 in
+    let a = (accepted_places c.requires).1 in
     let e = c.pair-address.ensures in
     omega arith
 
@@ -25,22 +24,17 @@ move_to-requires c = accepted_long c.requires
 
 pub returns-then-is_protected : goal.returns-then-is_protected
 returns-then-is_protected c s e =
-    let r = c in
-    let v = r in
-    refused_whole s _ _ _ e _ _ _ v.pair-address.ensures r.is_protected.ensures v.move_to.ensures
+    refused_whole s _ _ _ e _ _ _ c.pair-address.ensures c.is_protected.ensures c.move_to.ensures
     c.if-is_protected.true
 
 pub bounds-memory-at : goal.bounds-memory-at
 bounds-memory-at c =
-    let s = c in
-    let a = (accepted_places s.requires).1 in
-    let l = s.requires.memory in
+    let a = (accepted_places c.requires).1 in
+    let l = c.requires.memory in
     let e = c.pair-address.ensures in
     omega arith
 
 pub returns : goal.returns
 returns c s e =
-    let r = c in
-    let v = r in
-    stored_whole s _ _ _ e _ _ _ v.pair-address.ensures r.is_protected.ensures v.move_to.ensures
+    stored_whole s _ _ _ e _ _ _ c.pair-address.ensures c.is_protected.ensures c.move_to.ensures
     c.if-is_protected.false

@@ -16,14 +16,12 @@ bounds-image-27-then-clocks-lt7 c = let l = accepted_long c.requires.accepted in
 
 pub bounds-image-28-then-clocks-lt7 : goal.bounds-image-28-then-clocks-lt7
 bounds-image-28-then-clocks-lt7 c =
-    let v = c in
-    let l = accepted_long v.requires.accepted in
+    let l = accepted_long c.requires.accepted in
     simp length-set (omega arith)
 
 pub returns-then-clocks-lt7 : goal.returns-then-clocks-lt7
 returns-then-clocks-lt7 c =
-    let s = c in
-    inside_left _ _ _ _ (accepted_lies s.requires.accepted) _ s.requires.number_value.0 s.requires.number_value.1 s.requires.number_value.2 _ c.push.ensures
+    inside_left _ _ _ _ (accepted_lies c.requires.accepted) _ c.requires.number_value.0 c.requires.number_value.1 c.requires.number_value.2 _ c.push.ensures
     c.if-clocks-lt7.true
 
 pub begin-requires : goal.begin-requires
@@ -31,9 +29,5 @@ begin-requires c = accepted_long c.requires.accepted
 
 pub returns : goal.returns
 returns c =
-    let b = c in
-    let k = b in
-    let d = k in
-    let s = d in
-    acknowledged_left _ _ _ _ (accepted_lies s.requires.accepted) _ s.requires.number_value.0 s.requires.number_value.1 s.requires.number_value.2 _ _ _
-    k.follows.ensures k.keeps.ensures b.begin.ensures d.if-clocks-lt7.false d.if-clocks-eq7.false
+    acknowledged_left _ _ _ _ (accepted_lies c.requires.accepted) _ c.requires.number_value.0 c.requires.number_value.1 c.requires.number_value.2 _ _ _
+    c.follows.ensures c.keeps.ensures c.begin.ensures c.if-clocks-lt7.false c.if-clocks-eq7.false

@@ -29,27 +29,24 @@ returns-in-2 c s e = rw c.in-2.is (record { acknowledged = refl; image = e; memo
 
 pub returns-in-3 : goal.returns-in-3
 returns-in-3 c s e =
-    let v = c in
-    rw v.in-3.is
-    (low_whole s _ _ _ e _ _ v.pair-address.ensures v.move_to.ensures)
+    rw c.in-3.is
+    (low_whole s _ _ _ e _ _ c.pair-address.ensures c.move_to.ensures)
 
 pub returns-in-4 : goal.returns-in-4
 unfolding whole_by
 returns-in-4 c s e =
-    let v = c in
-    let t = v.aim.ensures s e in
-    rw v.in-4.is (record { acknowledged = t.acknowledged; image = t.image; memory = refl })
+    let t = c.aim.ensures s e in
+    rw c.in-4.is (record { acknowledged = t.acknowledged; image = t.image; memory = refl })
 
 pub returns-in-5 : goal.returns-in-5
 returns-in-5 c s e =
-    let v = c in rw v.in-5.is (v.put.ensures s e)
+    rw c.in-5.is (c.put.ensures s e)
 
 pub returns-in_default : goal.returns-in_default
 unfolding whole_by
 returns-in_default c s e =
-    let v = c in
-    let t = v.store.ensures s e in
-    let r = v.in_default.in_default-own.rest in
+    let t = c.store.ensures s e in
+    let r = c.in_default.in_default-own.rest in
     rw (
       ne_eqb _ _ r.1,
       ne_eqb _ _ r.0.1,

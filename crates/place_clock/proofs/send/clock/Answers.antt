@@ -7,15 +7,14 @@ use Rattle.place_clock.proofs.Outgoings.{at_idle}
 use Rattle.place_clock.proofs.send.clock.Goals as goal
 
 pub bounds-image-26 : goal.bounds-image-26
-bounds-image-26 c = let t = c in let l = image_long _ t.requires.image in omega arith
+bounds-image-26 c = let l = image_long _ c.requires.image in omega arith
 
 pub returns-then-number-eq-IDLE : goal.returns-then-number-eq-IDLE
-returns-then-number-eq-IDLE c = let t = c in at_idle t.requires t.args.high c.if-number-eq-IDLE.true
+returns-then-number-eq-IDLE c = at_idle c.requires c.args.high c.if-number-eq-IDLE.true
 
 pub send-requires : goal.send-requires
 send-requires c =
-    let t = c in
-    record { accepted = t.requires; number_value = (refl, c.if-number-gt-WRITE_COMPANION.true) }
+    record { accepted = c.requires; number_value = (refl, c.if-number-gt-WRITE_COMPANION.true) }
 
 pub returns-then-number-gt-WRITE_COMPANION : goal.returns-then-number-gt-WRITE_COMPANION
 returns-then-number-gt-WRITE_COMPANION c = c.send.ensures

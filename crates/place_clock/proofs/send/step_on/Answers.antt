@@ -7,5 +7,4 @@ use Rattle.place_clock.proofs.send.step_on.Goals as goal
 pub returns : goal.returns
 unfolding image_of
 returns c s e =
-    let m = c in
-    rw (m.move_to.ensures, m.pair.ensures, e, address_of_bytes s.address)
+    rw (c.move_to.ensures, c.pair.ensures, e, address_of_bytes s.address)

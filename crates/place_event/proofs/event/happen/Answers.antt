@@ -9,22 +9,17 @@ use Rattle.place_event.proofs.event.happen.Goals as goal
 
 pub shown-requires : goal.shown-requires
 shown-requires c =
-    let k = c in ap length k.clock-line.ensures.image ∙ image_length _
+    ap length c.clock-line.ensures.image ∙ image_length _
 
 pub returns-then-event-eq1 : goal.returns-then-event-eq1
 returns-then-event-eq1 c =
-    let h = c in
-    let k = h in
-    let s = k in
-    answered_clock _ _ _ _ _ _ _ (image_well _ s.requires.accepted.image) k.if-event-eq1.true
-    k.clock-line.ensures h.shown.ensures.0 c.lined.ensures
+    answered_clock _ _ _ _ _ _ _ (image_well _ c.requires.accepted.image) c.if-event-eq1.true
+    c.clock-line.ensures c.shown.ensures.0 c.lined.ensures
 
 pub shown-requires-2 : goal.shown-requires-2
 shown-requires-2 c =
-    let q = c in ap length (q.quiet.ensures q.args.memory.now).image ∙ image_length _
+    ap length (c.quiet.ensures c.args.memory.now).image ∙ image_length _
 
 pub returns : goal.returns
 returns c =
-    let h = c in
-    let q = h in
-    answered_quiet _ _ _ _ _ (q.quiet.ensures _) h.shown-2.ensures.0 c.lined-2.ensures
+    answered_quiet _ _ _ _ _ (c.quiet.ensures _) c.shown-2.ensures.0 c.lined-2.ensures

@@ -29,5 +29,4 @@ shape_of-image c = search (rules, c.image-1.given)
 pub returns : goal.returns
 unfolding image_of
 returns c s e =
-    let b = c in
-    rw (loss_heard s (rw e at b.if-image-ne-POWER_ON.false), b.begin.ensures, e) (sym (phase_over (at_rest s) Idle))
+    rw (loss_heard s (rw e at c.if-image-ne-POWER_ON.false), c.begin.ensures, e) (sym (phase_over (at_rest s) Idle))

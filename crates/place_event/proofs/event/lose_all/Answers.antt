@@ -26,9 +26,8 @@ bounds-image-25-2 c =
 pub returns : goal.returns
 unfolding image_of
 returns c s e =
-    let w = c in
     rw (
-      all_lost s (λ z. w.if-image-eq-POWER_OFF.false (rw e z)),
-      w.write_over.ensures,
-      w.fresh.ensures,
+      all_lost s (λ z. c.if-image-eq-POWER_OFF.false (rw e z)),
+      c.write_over.ensures,
+      c.fresh.ensures,
     ) refl

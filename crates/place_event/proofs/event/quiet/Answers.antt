@@ -26,58 +26,52 @@ restore-requires c = image_long _ c.requires.image_value
 pub returns-in-0 : goal.returns-in-0
 unfolding happening
 returns-in-0 c m =
-    let d = c in
-    let h = d.requires.image_value in
-    let e = d.args.event in
-    let x : happening e ≡ on_wire Machine.start = rw d.in-0.is refl in
+    let h = c.requires.image_value in
+    let e = c.args.event in
+    let x : happening e ≡ on_wire Machine.start = rw c.in-0.is refl in
     quiet_left _ m e (on_wire Machine.start) _ x tt
-    (d.start.ensures _ (sym (image_written _ h)))
+    (c.start.ensures _ (sym (image_written _ h)))
 
 pub returns-in-1 : goal.returns-in-1
 unfolding happening
 returns-in-1 c m =
-    let d = c in
-    let h = d.requires.image_value in
-    let e = d.args.event in
-    let x : happening e ≡ on_wire Machine.stop = rw d.in-1.is refl in
+    let h = c.requires.image_value in
+    let e = c.args.event in
+    let x : happening e ≡ on_wire Machine.stop = rw c.in-1.is refl in
     quiet_left _ m e (on_wire Machine.stop) _ x tt
-    (d.stop.ensures _ (sym (image_written _ h)))
+    (c.stop.ensures _ (sym (image_written _ h)))
 
 pub returns-in-4 : goal.returns-in-4
 unfolding happening
 returns-in-4 c m =
-    let d = c in
-    let h = d.requires.image_value in
-    let e = d.args.event in
-    let x : happening e ≡ second = rw d.in-4.is refl in
+    let h = c.requires.image_value in
+    let e = c.args.event in
+    let x : happening e ≡ second = rw c.in-4.is refl in
     quiet_left _ m e second _ x tt
-    (d.second.ensures.1 _ (sym (image_written _ h)))
+    (c.second.ensures.1 _ (sym (image_written _ h)))
 
 pub returns-in-5 : goal.returns-in-5
 unfolding happening
 returns-in-5 c m =
-    let d = c in
-    let h = d.requires.image_value in
-    let e = d.args.event in
-    let x : happening e ≡ lost = rw d.in-5.is refl in
+    let h = c.requires.image_value in
+    let e = c.args.event in
+    let x : happening e ≡ lost = rw c.in-5.is refl in
     quiet_left _ m e lost _ x tt
-    (d.lose.ensures _ (sym (image_written _ h)))
+    (c.lose.ensures _ (sym (image_written _ h)))
 
 pub returns-in-6 : goal.returns-in-6
 unfolding happening
 returns-in-6 c m =
-    let d = c in
-    let h = d.requires.image_value in
-    let e = d.args.event in
-    let x : happening e ≡ gone = rw d.in-6.is refl in
+    let h = c.requires.image_value in
+    let e = c.args.event in
+    let x : happening e ≡ gone = rw c.in-6.is refl in
     quiet_left _ m e gone _ x tt
-    (d.lose_all.ensures _ (sym (image_written _ h)))
+    (c.lose_all.ensures _ (sym (image_written _ h)))
 
 pub returns-in_default : goal.returns-in_default
 returns-in_default c m =
-    let d = c in
-    let p = d.requires in
-    let n = d.in_default.in_default-own.rest in
+    let p = c.requires in
+    let n = c.in_default.in_default-own.rest in
     quiet_left _ m _ returned _ (happening_returned _ p.event_bound.0 p.event_bound.1 n.0.0.0.0.1 n.0.0.0.1
     n.0.0.1 n.0.1 n.1) tt
-    (d.restore.ensures _ (sym (image_written _ p.image_value)))
+    (c.restore.ensures _ (sym (image_written _ p.image_value)))

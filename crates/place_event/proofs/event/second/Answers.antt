@@ -14,8 +14,7 @@ returns-then-image-eq-POWER_OFF c = (
 pub returns : goal.returns
 unfolding image_of
 returns c =
-    let t = c in
-    let n = t.if-image-eq-POWER_OFF.false in (
-      λ s e. rw (rolled_heard s (λ z. n (rw e z))) (t.tick.ensures s e).0,
-      λ s e. rw (second_heard s (λ z. n (rw e z))) (t.tick.ensures s e).1,
+    let n = c.if-image-eq-POWER_OFF.false in (
+      λ s e. rw (rolled_heard s (λ z. n (rw e z))) (c.tick.ensures s e).0,
+      λ s e. rw (second_heard s (λ z. n (rw e z))) (c.tick.ensures s e).1,
     )

@@ -15,5 +15,4 @@ returns-then-image-ne-POWER_ON c s e = rw (line_unheard s Machine.stop (λ z. c.
 pub returns : goal.returns
 unfolding image_of
 returns c s e =
-    let b = c in
-    rw (stop_heard s (rw e at b.if-image-ne-POWER_ON.false), b.begin.ensures, e) (sym (phase_over s Idle))
+    rw (stop_heard s (rw e at c.if-image-ne-POWER_ON.false), c.begin.ensures, e) (sym (phase_over s Idle))

@@ -15,23 +15,19 @@ second-rolled-requires c = image_long _ c.requires.accepted.image
 
 pub shown-requires : goal.shown-requires
 shown-requires c =
-    let v = c in
-    let h = v.requires.accepted.image in
-    ap length (v.second-rolled.ensures.1 _ (sym (image_written _ h))) ∙ image_length _
+    let h = c.requires.accepted.image in
+    ap length (c.second-rolled.ensures.1 _ (sym (image_written _ h))) ∙ image_length _
 
 pub returns-then-event-eq4 : goal.returns-then-event-eq4
 returns-then-event-eq4 c =
-    let w = c in
-    let v = w in
-    let e = v.if-event-eq4.true in
-    let h = v.requires.accepted.image in
+    let e = c.if-event-eq4.true in
+    let h = c.requires.accepted.image in
     let k = sym (image_written _ h) in (
-      answered_quiet _ _ _ _ _ (quiet_left _ _ _ second _ (happening_second _ e) tt (v.second-rolled.ensures.1 _ k))
-          w.shown.ensures.0 c.lined.ensures,
-      told_second _ _ _ e (v.second-rolled.ensures.0 _ k),
+      answered_quiet _ _ _ _ _ (quiet_left _ _ _ second _ (happening_second _ e) tt (c.second-rolled.ensures.1 _ k))
+          c.shown.ensures.0 c.lined.ensures,
+      told_second _ _ _ e (c.second-rolled.ensures.0 _ k),
     )
 
 pub returns : goal.returns
 returns c =
-    let d = c in
-    (d.happen.ensures, sym (no_tick _ _ (ne_eqb _ 4 d.if-event-eq4.false)))
+    (c.happen.ensures, sym (no_tick _ _ (ne_eqb _ 4 c.if-event-eq4.false)))
