@@ -21,9 +21,9 @@ fn fetch(section: &[u8], place: usize, bytes: &mut [u8])
     ensures { bytes.new ≡ take (length bytes.old) (drop place section.now) }
 {
     let mut at = place;
-    for i in 0..bytes.len() {
+    for byte in bytes.iter_mut() {
         let taken = taken_through(section, at);
-        bytes[i] = taken.byte;
+        *byte = taken.byte;
         at = taken.place;
     }
 }

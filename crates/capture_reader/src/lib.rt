@@ -30,10 +30,7 @@ pub fn taken_at(file: &[u8], place: usize) -> Taken
             place: place + 1,
         };
     }
-    Taken {
-        byte: 0,
-        place: place,
-    }
+    Taken { byte: 0, place }
 }
 
 // The byte at a reader's place, and the place after it.

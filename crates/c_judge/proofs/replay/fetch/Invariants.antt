@@ -6,7 +6,7 @@ use lib.ListN.{length, take}
 use Rattle.c_judge.proofs.Replays.{section}
 use Rattle.c_judge.proofs.replay.fetch.Given as goal
 
-abbrev pub invariant-loop-i : goal.invariant-loop-i
-invariant-loop-i l =
-    (length l.bytes ≡ length l.initial.bytes) × (l.at ≡ l.place + l.i)
-    × (take l.i l.bytes ≡ take l.i (section l.section l.place (length l.initial.bytes)))
+abbrev pub invariant-loop-byte : goal.invariant-loop-byte
+invariant-loop-byte l =
+    (length l.bytes ≡ length l.initial.bytes) × (l.at ≡ l.place + l.byte-index)
+    × (take l.byte-index l.bytes ≡ take l.byte-index (section l.section l.place (length l.initial.bytes)))
