@@ -126,11 +126,11 @@ pub fn leave(t: Token, number: u8) -> Token
 }
 
 // Nothing is to be done.
-pub fn stay(token: Token) -> Due
-    ensures { result ≡ stayed token }
+pub fn stay(t: Token) -> Due
+    ensures { result ≡ stayed t }
 {
     Due {
-        token,
+        token: t,
         first: NONE,
         second: NONE,
         third: NONE,
