@@ -19,8 +19,7 @@ use Rattle.fm31_run.specs.Code.Run.{all_known}
 use Rattle.fm31_place_list.specs.Rowed.{RanIn}
 use Rattle.fm31_image.specs.Image.{image_of, decode_of}
 use Rattle.fm31_image.specs.Reading.{decoded_says}
-use Rattle.fm31_image.specs.declared.Decoded.{Decoded}
-use Rattle.fm31_image.specs.declared.Decoded.TheVariants.{Good, Bad}
+use Rattle.std.specs.Prelude.{Option, Some, None}
 use Rattle.fm31_image.proofs.Images.{decode_image, image_decode}
 use Rattle.c_fm31.specs.Run.{Outcome, refused, outcome_of, RunSettled}
 
@@ -46,21 +45,21 @@ module _ (size : ℕ) where
   written r es a = lists.written list31 r es a
 
   -- an image is read, or not
-  pub by_image : {X : Type 0} (i : List ℕ) (d : Decoded) → decode_of size lone i ≡ d
-      → ((s : State) → decode_of size lone i ≡ Good s → X) → (decode_of size lone i ≡ Bad → X) → X
-  by_image i (Good s) e f g = f s e
-  by_image i Bad e f g = g e
+  pub by_image : {X : Type 0} (i : List ℕ) (d : Option State) → decode_of size lone i ≡ d
+      → ((s : State) → decode_of size lone i ≡ Some s → X) → (decode_of size lone i ≡ None → X) → X
+  by_image i (Some s) e f g = f s e
+  by_image i None e f g = g e
 
   abbrev pub reads31 : lists.Reads list31
   reads31 =
       record {
         Ok = λ s. well_formed size lone s ≡ true;
-        Read = λ i s. decode_of size lone i ≡ Good s;
-        Unread = λ i. decode_of size lone i ≡ Bad;
+        Read = λ i s. decode_of size lone i ≡ Some s;
+        Unread = λ i. decode_of size lone i ≡ None;
         or_not = λ i f g. by_image i (decode_of size lone i) refl f g;
-        some_read = λ i s d. ap (λ (x : Decoded). (decoded_says size lone x).returned) d;
-        none_read = λ i d. ap (λ (x : Decoded). (decoded_says size lone x).returned) d;
-        number = λ i d. ap (λ (x : Decoded). (decoded_says size lone x).number) d;
+        some_read = λ i s d. ap (λ (x : Option State). (decoded_says size lone x).returned) d;
+        none_read = λ i d. ap (λ (x : Option State). (decoded_says size lone x).returned) d;
+        number = λ i d. ap (λ (x : Option State). (decoded_says size lone x).number) d;
         again = decode_image size lone;
         ok = λ i s d. (image_decode size lone i s d).0;
         image = λ i s d. (image_decode size lone i s d).1;
@@ -71,10 +70,10 @@ module _ (size : ℕ) where
     outcome_wrong_memory = list.outcome_wrong_memory list31 reads31 i m es a
 
     module _ (h : length m ≡ size) where
-      pub outcome_wrong_image : decode_of size lone i ≡ Bad → outcome_of size i m es a ≡ refused wrong_state i m a
+      pub outcome_wrong_image : decode_of size lone i ≡ None → outcome_of size i m es a ≡ refused wrong_state i m a
       outcome_wrong_image = list.outcome_wrong_image list31 reads31 i m es a h
 
-      module _ (s : State) (d : decode_of size lone i ≡ Good s) where
+      module _ (s : State) (d : decode_of size lone i ≡ Some s) where
         pub outcome_unknown_event : all_known es ≡ false → outcome_of size i m es a ≡ refused unknown_event i m a
         outcome_unknown_event = list.outcome_unknown_event list31 reads31 i m es a h s d
 

@@ -15,7 +15,7 @@ use Rattle.fm31.specs.Step.{state_of}
 use Rattle.fm31.specs.Run.{answer_to, run_of}
 use Rattle.fm31.specs.declared.State.{State}
 use Rattle.fm31_image.specs.Image.{image_of, decode_of}
-use Rattle.fm31_image.specs.declared.Decoded.TheVariants.{Good, Bad}
+use Rattle.std.specs.Prelude.{Some, None}
 use Rattle.c_fm31.specs.Single.{SingleSettled}
 use Rattle.c_fm31.proofs.Runs.{told, outcome_wrong_memory, outcome_wrong_image, outcome_unknown_event}
 use Rattle.c_fm31.proofs.Runs.{outcome_short_answers, outcome_written}
@@ -25,10 +25,10 @@ module _ (size : ℕ) (i m : List ℕ) (e : ℕ) (t : List ℕ) where
   single_wrong_memory h = told (outcome_wrong_memory size i m (e ∷ []) t h)
 
   module _ (h : length m ≡ size) where
-    pub single_wrong_image : decode_of size lone i ≡ Bad → SingleSettled size i m e t wrong_state i m t
+    pub single_wrong_image : decode_of size lone i ≡ None → SingleSettled size i m e t wrong_state i m t
     single_wrong_image d = told (outcome_wrong_image size i m (e ∷ []) t h d)
 
-    module _ (s : State) (d : decode_of size lone i ≡ Good s) where
+    module _ (s : State) (d : decode_of size lone i ≡ Some s) where
       pub single_unknown_event : last_event < e → SingleSettled size i m e t unknown_event i m t
       unfolding all_known
       single_unknown_event l = told (outcome_unknown_event size i m (e ∷ []) t h s d (rw (lt-leb e last_event l)))

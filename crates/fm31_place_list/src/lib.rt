@@ -91,6 +91,7 @@ fn stride(
 }
 
 // All events, from an accepted image. The answers go to the front of their buffer.
+// Stays (plain): a `while`, since a stride goes on by one event or by a whole row.
 pub fn run_events(size: u16, image: &mut [u8], memory: &mut [u8], events: &[u8], answers: &mut [u8])
     requires accepted { Accepted size lone image.old memory.old × (0 < size) }
     requires events_value { (all_known events.now ≡ true) × (length events.now ≤ length answers.old) }

@@ -14,6 +14,7 @@ use Rattle.bits.proofs.Cases.{by_cond}
 use Rattle.fm31.specs.Chip.{size_of}
 use Rattle.fm31.specs.Limits.{well_formed}
 use Rattle.fm31.specs.declared.Size.{Size}
+use Rattle.fm31.specs.declared.State.{State}
 use Rattle.set_event.specs.Set.{Held, Together, Place, first, second, third, fourth, number_of, at, select_in, hears}
 use Rattle.set_event.specs.Set.{after_at, after_event, after_events}
 use Rattle.set_event.specs.Make.{is_within}
@@ -23,8 +24,7 @@ use Rattle.set_event.proofs.Facts.{four_of, here_is, place_has}
 use Rattle.set_event.proofs.Kept.{set_fit_next}
 use Rattle.law_wired.proofs.Wire.{not_true}
 use Rattle.fm31_image.specs.Image.{image_size, decode_of}
-use Rattle.fm31_image.specs.declared.Decoded.{Decoded}
-use Rattle.fm31_image.specs.declared.Decoded.TheVariants.{Good, Bad}
+use Rattle.std.specs.Prelude.{Option, Some, None}
 use Rattle.fm31_image.proofs.Images.{decode_image}
 use Rattle.set_image.specs.Read.{count_of, mark_size, image_at, absent, got_of, device_at, place_of, reading_of}
 use Rattle.set_image.specs.Write.{images_of}
@@ -68,17 +68,17 @@ fit_kept t [] f = f
 fit_kept t (e ∷ es) f = fit_kept (after_event t e) es (set_fit_next t e f)
 
 -- a device that was read well
-got_size : (fits : Bool) (k : Size) (z : ℕ) (d : Decoded) → (got_of fits k z d).member.size ≡ k
-got_size fits k z (Good s) = refl
-got_size fits k z Bad = refl
+got_size : (fits : Bool) (k : Size) (z : ℕ) (d : Option State) → (got_of fits k z d).member.size ≡ k
+got_size fits k z (Some s) = refl
+got_size fits k z None = refl
 
-got_select : (fits : Bool) (k : Size) (z : ℕ) (d : Decoded) → (got_of fits k z d).member.select ≡ z
-got_select fits k z (Good s) = refl
-got_select fits k z Bad = refl
+got_select : (fits : Bool) (k : Size) (z : ℕ) (d : Option State) → (got_of fits k z d).member.select ≡ z
+got_select fits k z (Some s) = refl
+got_select fits k z None = refl
 
-got_fits : (fits : Bool) (k : Size) (z : ℕ) (d : Decoded) → (got_of fits k z d).good ≡ true → fits ≡ true
-got_fits fits k z (Good s) e = e
-got_fits fits k z Bad e = not_true e
+got_fits : (fits : Bool) (k : Size) (z : ℕ) (d : Option State) → (got_of fits k z d).good ≡ true → fits ≡ true
+got_fits fits k z (Some s) e = e
+got_fits fits k z None e = not_true e
 
 -- the first four places of a plan are on the line
 in_count : (plan : List ℕ) (v : ℕ) → v ≤ 3 → ltb v (count_of plan) ≡ ltb v (length plan)
@@ -181,7 +181,7 @@ module _ (plan images : List ℕ) (good : (reading_of plan images).good ≡ true
           (subst (λ (x : Size). well_formed (size_of x) (select_in device) device.member.state ≡ true) size_is
           (and_split (ltb (select_in device) 4) _ w).1)
 
-      decoded : decode_of (size_of (mark_size mark)) (mark % 4) (image_at (number_of v) left) ≡ Good device.member.state
+      decoded : decode_of (size_of (mark_size mark)) (mark % 4) (image_at (number_of v) left) ≡ Some device.member.state
       decoded =
           ap (decode_of (size_of (mark_size mark)) (mark % 4)) (image_at_lem (count_of plan) after images (reading_length plan
           images good) v on_line)

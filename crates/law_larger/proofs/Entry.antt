@@ -24,7 +24,7 @@ use Rattle.bus_list.specs.Run as list
 use Rattle.bus_list.proofs.Ends as ends
 use Rattle.fm31_run.specs.Code.Run.{all_known}
 use Rattle.c_fm31.specs.Run.{Outcome, outcome_of}
-use Rattle.fm31_image.specs.declared.Decoded.TheVariants.{Good}
+use Rattle.std.specs.Prelude.{Some}
 use Rattle.fm31_image.proofs.Images.{image_decode, decode_image}
 use Rattle.fm31_run.proofs.Runs.{run_ok}
 use Rattle.c_fm31.proofs.Runs.{list31, reads31}
@@ -35,7 +35,7 @@ use Rattle.law_parts.specs.Stored.{AtData, StoredAt}
 use Rattle.law_larger.specs.Entry.{up_to_ninth, CallStores, CallKeeps, LockedIn, CallLocks, CountByNumber}
 use Rattle.law_larger.proofs.Memory.{acknowledged_stored, protected_kept}
 
-good_is : {s t : State} → Good s ≡ Good t → s ≡ t
+good_is : {s t : State} → Some s ≡ Some t → s ≡ t
 good_is e = cc
 
 -- the answer that comes after others, in a buffer that goes on
@@ -128,7 +128,7 @@ module _ (size : ℕ) where
 
   -- the state before the byte is the one that the image holds
   held_before : 0 < size → (i m before a : List ℕ) (c : Accepted size i m before a) (s : State)
-      → decode_of size lone (outcome_of size i m before a).image ≡ Good s → (run_of size lone c.state m before).state ≡
+      → decode_of size lone (outcome_of size i m before a).image ≡ Some s → (run_of size lone c.state m before).state ≡
       s
   held_before z i m before a c s holds =
       let o = run_ok size z c.state m before (image_decode size lone i c.state c.image).0 c.memory in

@@ -5,7 +5,7 @@
 --   CallStores, CallKeeps    an acknowledged memory byte is stored; a protected address is unchanged
 --   CallLocks                a locked serial number stays
 --   CountByNumber            how many events were done, which the entries do not say apart
-use Rattle.std.specs.Prelude.{ℕ, ◌%◌, ◌≡◌, Bool, true, cond, List, [], ◌∷◌, ◌++◌, eqb, length, get_or, take, drop}
+use Rattle.std.specs.Prelude.{ℕ, ◌%◌, ◌≡◌, Bool, true, cond, List, [], ◌∷◌, ◌++◌, eqb, length, get_or, take, drop, Some}
 use Rattle.bits.specs.Weight.{has}
 use Rattle.fm31_counters.specs.Map.{SNL}
 use Rattle.bus.specs.Select.{lone}
@@ -14,7 +14,6 @@ use Rattle.fm31.specs.Chip.{companion31}
 use Rattle.fm31.specs.declared.State.{State}
 use Rattle.fm31_image.specs.Image.{decode_of}
 use Rattle.c_fm31.specs.Run.{outcome_of}
-use Rattle.fm31_image.specs.declared.Decoded.TheVariants.{Good}
 use Rattle.law_parts.specs.Events.{clock_event}
 use Rattle.law_parts.specs.Stored.{Byte, AtData, StoredAt}
 use Rattle.law_larger.specs.Memory.{Protected, BeforeEach}
@@ -30,7 +29,7 @@ module _ (size : ℕ) where
   CallStores =
       (i m before byte a : List ℕ) (w : ℕ) (d : Bool) (s : State)
       → (outcome_of size i m (up_to_ninth before byte d) a).number ≡ accepted
-      → decode_of size lone (outcome_of size i m before a).image ≡ Good s → AtData s.bus → Byte companion31 w byte
+      → decode_of size lone (outcome_of size i m before a).image ≡ Some s → AtData s.bus → Byte companion31 w byte
       → get_or (outcome_of size i m (up_to_ninth before byte true) a).answers (length (before ++ byte)) 0 % 2 ≡ 0
       → StoredAt (outcome_of size i m before a).memory s.bus.address w
       (outcome_of size i m (up_to_ninth before byte d) a).memory
@@ -39,7 +38,7 @@ module _ (size : ℕ) where
   -- it had.
   abbrev pub CallKeeps : Type 0
   CallKeeps =
-      (i m es b : List ℕ) (a : ℕ) (s : State) → (outcome_of size i m es b).number ≡ accepted → decode_of size lone i ≡ Good
+      (i m es b : List ℕ) (a : ℕ) (s : State) → (outcome_of size i m es b).number ≡ accepted → decode_of size lone i ≡ Some
       s
       → BeforeEach size (λ t e. Protected size t a ≡ true) s m es
       → get_or (outcome_of size i m es b).memory a 0 ≡ get_or m a 0

@@ -10,12 +10,12 @@ use borrow.Author.Tests.{lt-ltb}
 use Rattle.wire.proofs.Tests.{and_split}
 use Rattle.fm31.specs.Chip.{size_of}
 use Rattle.fm31.specs.declared.Size.TheVariants.{Kb64, Kb256}
+use Rattle.fm31.specs.declared.State.{State}
 use Rattle.set_event.specs.Set.{first, second, third, fourth, number_of, at}
 use Rattle.set_event.specs.declared.Member.{Member}
 use Rattle.set_event.proofs.Facts.{four_of}
 use Rattle.fm31_image.specs.Image.{image_size, decode_of}
-use Rattle.fm31_image.specs.declared.Decoded.{Decoded}
-use Rattle.fm31_image.specs.declared.Decoded.TheVariants.{Good, Bad}
+use Rattle.std.specs.Prelude.{Option, Some, None}
 use Rattle.set_image.specs.Read.{count_of, mark_size, image_at, got_of, device_at, place_of, reading_of}
 use Rattle.law_set.specs.Order.{ReadAt, ReadInOrder, WrittenInOrder}
 use Rattle.law_set.proofs.Written.{images_long, image_at_lem}
@@ -31,14 +31,14 @@ size_of_mark mark = chosen (eqb (mark / 4 % 2) 1)
 
 -- what was read well of an image
 module _ (mark : ℕ) (image : List ℕ) (m : List ℕ) where
-  abbrev got : Bool → Decoded → Member
+  abbrev got : Bool → Option State → Member
   got fits d = (got_of fits (mark_size mark) (mark % 4) d).member
 
-  good_is : (fits : Bool) (d : Decoded) → (got_of fits (mark_size mark) (mark % 4) d).good ≡ true
+  good_is : (fits : Bool) (d : Option State) → (got_of fits (mark_size mark) (mark % 4) d).good ≡ true
       → decode_of (size_of (mark_size mark)) (mark % 4) image ≡ d
       → ReadAt mark image (record { member = got fits d; memory = m })
-  good_is fits (Good s) g e = record { size = size_of_mark mark; select = refl; state = e }
-  good_is fits Bad g e = absurd (false≢true g)
+  good_is fits (Some s) g e = record { size = size_of_mark mark; select = refl; state = e }
+  good_is fits None g e = absurd (false≢true g)
 
 module _ (plan images a b c d : List ℕ) (good : (reading_of plan images).good ≡ true) where
   all_good : ((place_of plan images 0).good ≡ true) × ((place_of plan images 1).good ≡ true)

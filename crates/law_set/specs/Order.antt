@@ -4,11 +4,10 @@
 --   part                      the 64 bytes of a place
 --   ReadAt, ReadInOrder       a set that is read
 --   WrittenInOrder            a set that is written
-use Rattle.std.specs.Prelude.{ℕ, ◌*◌, ◌/◌, ◌%◌, ◌<◌, ◌≡◌, true, cond, List, eqb, length, take, drop, get_or}
+use Rattle.std.specs.Prelude.{ℕ, ◌*◌, ◌/◌, ◌%◌, ◌<◌, ◌≡◌, true, cond, List, eqb, length, take, drop, get_or, Some}
 use Rattle.set_event.specs.Set.{Held, Together, Place, number_of, at, size_in, select_in}
 use Rattle.set_event.specs.Outcome.{lent_to}
 use Rattle.fm31_image.specs.Image.{image_of, decode_of}
-use Rattle.fm31_image.specs.declared.Decoded.TheVariants.{Good}
 use Rattle.set_image.specs.Read.{reading_of}
 use Rattle.set_image.specs.Write.{images_of}
 
@@ -20,7 +19,7 @@ part v images = take 64 (drop (64 * number_of v) images)
 pub record ReadAt (mark : ℕ) (image : List ℕ) (h : Held) : Type 0 where
   pub size : size_in h ≡ cond (eqb (mark / 4 % 2) 1) 32768 8192
   pub select : select_in h ≡ mark % 4
-  pub state : decode_of (size_in h) (select_in h) image ≡ Good h.member.state
+  pub state : decode_of (size_in h) (select_in h) image ≡ Some h.member.state
 
 abbrev pub ReadInOrder : Type 0
 ReadInOrder =
