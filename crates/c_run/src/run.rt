@@ -32,16 +32,6 @@ pub fn run_events(image: &mut [u8], memory: &mut [u8], events: &[u8], answers: &
     }
 }
 
-// What a refused list run returns.
-pub fn refuse(number: u8) -> Ran
-    ensures { result ≡ record { number = number; count = 0 } }
-{
-    Ran {
-        number: u64::from(number),
-        count: 0,
-    }
-}
-
 // The list run's tests in the order of their numbers, with nothing written before the last; and how many events were done.
 fn run_list(
     image: &mut [u8],

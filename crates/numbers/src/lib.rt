@@ -63,26 +63,3 @@ pub fn number_told(outcome: Result<(), Refusal>) -> u64
         Err(refusal) => u64::from(refusal),
     }
 }
-
-// The numbers by themselves, until every entry has taken the refusals above.
-pub const WRONG_MEMORY: u8 = 1;
-
-pub const WRONG_STATE: u8 = 2;
-
-pub const UNKNOWN_EVENT: u8 = 3;
-
-pub const SHORT_ANSWERS: u8 = 4;
-
-pub const UNKNOWN_SELECTOR: u8 = 5;
-
-pub const PAST_THE_END: u8 = 6;
-
-pub const NOT_HELD: u8 = 7;
-
-pub const TOO_MANY_TICKS: u8 = 8;
-
-pub const WRONG_COUNT: u8 = 9;
-
-pub const EQUAL_SELECTS: u8 = 10;
-
-pub const IN_TRANSFER: u8 = 11;
