@@ -34,7 +34,7 @@ fn is_open(answers: &[u8]) -> bool
     requires { 28 ≤ length answers.now }
     ensures { result ≡ is_open (lines_of answers.now) }
 {
-    is_low(answers, 9) & (is_low(answers, 18) & is_low(answers, 27))
+    [9, 18, 27].iter().all(|at| is_low(answers, *at))
 }
 
 // Of a read, whether the second slave byte was acknowledged too.
