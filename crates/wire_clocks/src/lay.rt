@@ -83,9 +83,9 @@ pub fn lay_opening(address: u16, events: &mut [u8]) -> usize
 {
     let started = lay_event(START, events, 0);
     let named = lay_byte(WRITE_MEMORY, true, events, started);
-    // Stays (proof): with `to_be_bytes` the answer, `laid_then`, has a byte of an array where `opening` divides.
-    let half = lay_byte((address / 256) as u8, true, events, named);
-    lay_byte((address % 256) as u8, true, events, half)
+    let [high, low] = address.to_be_bytes();
+    let half = lay_byte(high, true, events, named);
+    lay_byte(low, true, events, half)
 }
 
 // Data bytes that are written. At each ninth clock the line is left to the device.

@@ -4,7 +4,7 @@
 use mathlib.Core.Path.{sym}
 use native.Mathlib.Omega.{arith}
 use Rattle.std.proofs.lemmas.Result.{err_from_is_err_and}
-use Rattle.wire_clocks.specs.Events.{write_events}
+use Rattle.wire_clocks.specs.Events.{opening, write_events}
 use Rattle.wire_clocks.proofs.Laying.{laid_then, written_length}
 use Rattle.c_master.proofs.Ways.{write_too_many, write_address, write_room, write_done}
 use Rattle.c_master.proofs.events.write_events.Goals as goal
@@ -37,4 +37,4 @@ returns c =
     let all = c.in_ok-count.ensures.ok in
     let place = c.in_ok-place.ensures.ok in
     write_done _ _ _ all.1 place.1 _ _ (omega (arith, all.0, c.write_count.ensures, c.in_ok-has_room.ensures.ok))
-    (laid_then (rw place.0 at c.lay_opening-opened.ensures) (laid_then c.lay_written-sent.ensures c.lay_event.ensures))
+    (laid_then {xs = opening c.args.address} (rw place.0 at c.lay_opening-opened.ensures) (laid_then c.lay_written-sent.ensures c.lay_event.ensures))
