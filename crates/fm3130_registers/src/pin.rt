@@ -4,7 +4,7 @@ ghost use Rattle.std.specs.Prelude.{◌≡◌, ◌≤◌};
 ghost use Rattle.fm3130_registers.specs.Pin.{number_of, function_of, pin_by};
 
 use crate::map::{AEN, AF, ALSW, CAL};
-use bits::{has, only};
+use bits::has;
 
 // The functions of the pin, each with its number.
 #[derive(Clone, Copy, PartialEq, Eq, Debug)]
@@ -34,6 +34,8 @@ fn function_of(control: u8, setup: u8) -> Function
 pub fn pin_by(control: u8, setup: u8) -> u8
     ensures { (result ≡ pin_by control setup) × (result ≤ 7) }
 {
-    let function = function_of(control, setup);
-    function as u8 + only((function == Function::Alarm) & has(control, AF), 4)
+    match function_of(control, setup) {
+        Function::Alarm if has(control, AF) => Function::Alarm as u8 + 4,
+        function => function as u8,
+    }
 }
