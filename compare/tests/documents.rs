@@ -62,11 +62,26 @@ fn is_edit(folder: PathBuf, label: &str) -> bool {
     folder.join(format!("{label}.edit")).is_file()
 }
 
+/// Whether a Rattle file declares a type of a name, or has something of a trait for one: `Verdict` of `Verdict::fmt`.
+fn has_type(text: &str, name: &str) -> bool {
+    let starts = ["pub struct ", "pub enum "].map(|kind| format!("{kind}{name}"));
+    let of_trait = format!(" for {name} {{");
+    text.lines().any(|line| {
+        let declared = starts
+            .iter()
+            .find_map(|start| line.strip_prefix(start.as_str()));
+        declared.is_some_and(|rest| rest.starts_with([' ', '<', ';']))
+            || (line.starts_with("impl") && line.ends_with(&of_trait))
+    })
+}
+
 /// Whether a crate has a place such as `bits` or `bits.pushed` in its code.
 fn is_code(source: &Path, place: &str) -> bool {
     let (file, function) = place.split_once('.').unwrap_or((place, ""));
     let text = text_of(&source.join(format!("{file}.rt")));
-    text.is_some_and(|text| function.is_empty() || has_function(&text, function))
+    text.is_some_and(|text| {
+        function.is_empty() || has_function(&text, function) || has_type(&text, function)
+    })
 }
 
 /// Whether a folder of specs or proofs has a place such as `Clock` or `Clock.kept`.
@@ -477,6 +492,7 @@ fn a_name_that_is_gone_is_noticed() {
         "wire/specs/Clock.kep",
         "wire/specs/Clok",
         "wire/src/bits.pus",
+        "c_judge/src/lib.Verdic",
         "wire/must-fail/none",
         "edits/wire/none",
         "twins/none",
