@@ -19,7 +19,7 @@ pub mod serve;
 // What an event asks of the companion: to take an address byte; a data byte; the byte at its address; to note that this byte
 // was read; a tick or edge; the loss of main power, of both supplies, the return of main power after backup.
 // Stays (plain): `Nothing` is a deed and no `Option`, since definition and code answer and do every event by one match.
-#[derive(Clone, Copy)]
+#[derive(Clone, Copy, Debug, PartialEq, Eq)]
 pub enum Deed {
     Nothing,
     Aim(u8),

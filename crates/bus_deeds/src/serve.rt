@@ -9,6 +9,7 @@ use crate::Deed;
 use bus::{Beat, Reply};
 
 // What taking a byte leaves, and whether the byte is acknowledged.
+// Stays (plain): a refused byte moves the address all the same, so both hold a companion.
 #[derive(Clone, Copy)]
 pub struct Taken<C> {
     pub companion: C,

@@ -35,6 +35,7 @@ pub fn answer_byte(line: bool) -> u8
 }
 
 // What the entry returns of a refused event: its state unchanged with answer byte 1.
+// Stays (plain): the FM3130's has a field more, what a tick told; one over both would take a type for it at every use.
 fn refused(refused_by: Refusal, state: State) -> Stepped
     ensures { result ≡ refusal (number_of refused_by) state }
 {

@@ -44,6 +44,7 @@ pub const ALSW: u8 = 128;
 pub const WP0: u8 = 8;
 
 // The address after one: from 0Eh back to 00h.
+// Stays (plain): the memory's is of another width and the larger family's goes back to 09h; each is one line.
 pub fn next_address(address: u8) -> u8
     requires { address ≤ LAST }
     ensures { result ≡ next_address address }

@@ -16,6 +16,8 @@ use bus_rows::{idle_row, receive_row, send_row};
 use fm31_place::event::happen;
 
 // One event.
+// Stays (plain): this and the two below are no twins of `place_list`'s: there are no rows of ticks here and no first bit sent
+// in a row; the rows of Clocks, which both have, are those of `bus_rows`.
 fn single(
     size: u16,
     image: &mut [u8],

@@ -12,7 +12,7 @@ mod entry;
 mod follow;
 
 // What the ninth clock of a byte is for: a lamp's value may be whole; nothing of ours; the device has to acknowledge.
-#[derive(Clone, Copy)]
+#[derive(Clone, Copy, Debug, PartialEq, Eq)]
 pub enum Due {
     Value,
     Silence,
@@ -21,6 +21,7 @@ pub enum Due {
 
 // The byte under way: whether it was refused at its eighth clock and still waits for its ninth; of a byte read from the
 // memory the address at its first clock, and the line so far.
+// Stays (plain): place and byte are kept of a refused byte too.
 #[derive(Clone, Copy)]
 pub struct Follower {
     pub refused: bool,

@@ -13,7 +13,7 @@ ghost use Rattle.pins_levels.specs.Look.{driven_of, asks, hand_of};
 
 // What one look sees. SDA is read between two readings of SCL: SCL is low; it was high and fell meanwhile, so that SDA may
 // be the next clock's; it was high both times, and SDA had this level.
-#[derive(Clone, Copy)]
+#[derive(Clone, Copy, Debug, PartialEq, Eq)]
 pub enum Seen {
     Low,
     Fell,
@@ -21,6 +21,7 @@ pub enum Seen {
 }
 
 // What is known between two looks.
+// Stays (plain): its flags are levels and what the device does, and none of them says whether another field counts.
 #[derive(Clone, Copy)]
 pub struct Token {
     // SCL was high at the last look

@@ -38,8 +38,9 @@ pub(crate) fn move_to(image: &mut [u8], address: u16)
     requires { length image.old ≡ image_size }
     ensures { image.new ≡ sets image.old ADDRESS_HIGH_AT (address / 256 ∷ address % 256 ∷ []) }
 {
-    image[ADDRESS_HIGH_AT] = (address / 256) as u8;
-    image[ADDRESS_LOW_AT] = (address % 256) as u8;
+    let [high, low] = address.to_be_bytes();
+    image[ADDRESS_HIGH_AT] = high;
+    image[ADDRESS_LOW_AT] = low;
 }
 
 // A whole data byte for the memory: stored, or refused where the address is protected; either way the address steps on.

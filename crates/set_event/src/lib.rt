@@ -34,6 +34,7 @@ pub struct Set {
 }
 
 // What an event leaves of one device, and its line.
+// Stays (plain): here and in the next a device stands beside its line, high or low.
 #[derive(Clone, Copy)]
 pub struct Heard {
     pub member: Member,

@@ -54,6 +54,7 @@ pub enum Named {
 }
 
 // What a clock leaves where no device is touched: the next phase, and the line.
+// Stays (plain): here and in the two below a flag stands beside a value that means something whatever the flag says.
 #[derive(Clone, Copy, Debug, PartialEq, Eq)]
 pub struct Turned {
     pub phase: Phase,

@@ -83,6 +83,7 @@ pub fn lay_opening(address: u16, events: &mut [u8]) -> usize
 {
     let started = lay_event(START, events, 0);
     let named = lay_byte(WRITE_MEMORY, true, events, started);
+    // Stays (proof): with `to_be_bytes` the answer, `laid_then`, has a byte of an array where `opening` divides.
     let half = lay_byte((address / 256) as u8, true, events, named);
     lay_byte((address % 256) as u8, true, events, half)
 }
