@@ -121,8 +121,9 @@ fn is_there(name: &str, named_in: &Path) -> bool {
             ["edits", owner, label] => is_edit(top().join("edits").join(owner), label),
             [owner, "must-fail", label] => is_edit(crates.join(owner).join("must-fail"), label),
             [owner, "src", place] => is_code(&crates.join(owner).join("src"), place),
-            [owner, folder @ ("specs" | "proofs"), place] => {
-                is_stated(&crates.join(owner).join(folder), place)
+            [owner, folder @ ("specs" | "proofs"), ref inner @ .., place] => {
+                let folder = crates.join(owner).join(folder);
+                is_stated(&folder.join(inner.join("/")), place)
             }
             [first, ..] => !top().join(first).is_dir(),
             [] => true,
@@ -491,6 +492,7 @@ fn a_name_that_is_gone_is_noticed() {
     for name in [
         "wire/specs/Clock.kep",
         "wire/specs/Clok",
+        "bus/specs/Code/Outcome.Redy",
         "wire/src/bits.pus",
         "c_judge/src/lib.Verdic",
         "wire/must-fail/none",
