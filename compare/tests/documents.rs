@@ -30,7 +30,7 @@ fn text_of(path: &Path) -> Option<String> {
     fs::read_to_string(path).ok()
 }
 
-/// Whether a line of an antt file defines a name: `name :`, `record name`, `data name`.
+/// Whether a line of an antt file defines a name: `name :`, `record name`, `data name`, `ruleset name`.
 fn defines(text: &str, name: &str) -> bool {
     text.lines().any(|line| {
         let words: Vec<&str> = line
@@ -39,7 +39,7 @@ fn defines(text: &str, name: &str) -> bool {
             .collect();
         match words[..] {
             [first, ":", ..] => first == name,
-            ["record" | "data", second, ..] => second == name,
+            ["record" | "data" | "ruleset", second, ..] => second == name,
             _ => false,
         }
     })
