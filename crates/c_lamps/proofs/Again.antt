@@ -1,6 +1,6 @@
 -- SPDX-License-Identifier: Apache-2.0
 -- The record's bytes that a call leaves are taken by the next call.
-use Prim.Native.Nat.{ℕ, ◌+◌, ◌-◌, ◌/◌, ◌<◌}
+use Prim.Native.Nat.{ℕ, ◌-◌, ◌/◌, ◌<◌}
 use mathlib.Core.Path.{◌≡◌, refl}
 use mathlib.Core.Bool.{Bool, true, false, ◌&&◌}
 use mathlib.Core.List.{List, [], ◌∷◌}
@@ -12,7 +12,7 @@ use Rattle.wire.specs.declared.Side.TheVariants.{Memory, Companion}
 use Rattle.wire.specs.declared.Phase.{Phase}
 use Rattle.wire.specs.declared.Phase.TheVariants.{Idle, Slave, AddressHigh, AddressLow, Pointer, Write, Read}
 use Rattle.wire.specs.Machine.{start, stop, clock}
-use Rattle.wire.proofs.Tests.{by_test, and_split}
+use Rattle.wire.proofs.Tests.{by_test, and_split, and_join}
 use Rattle.fm3130.specs.Chip.{memory_size}
 use Rattle.fm3130.specs.Limits.{well_formed}
 use Rattle.fm3130.specs.Event.{Happening, on_wire, beat, lost, gone, returned, happening, event_of}
@@ -24,48 +24,41 @@ use Rattle.fm3130_image.proofs.Images.{image_decode}
 use Rattle.lamps_eight.specs.Eight.{bit, lamp_next}
 use Rattle.lamps.specs.Step.{mark_by, gathered, followed, step_of}
 use Rattle.lamps.specs.Statement.{answered_by, proven_by}
-use Rattle.lamps_bytes.specs.Kept.{held_byte, kept_of, bytes_of, lamp_fits, lamps_fit, is_kept}
+use Rattle.lamps_bytes.specs.Kept.{kept_of, bytes_of, lamp_fits, lamps_in, lamps_fit, is_kept}
 use Rattle.lamps_eight.specs.declared.Mark.{Mark}
 use Rattle.lamps_eight.specs.declared.Mark.TheVariants.{Failed, Ended, Ticked, Gave, Other}
 use Rattle.lamps.specs.declared.Follower.{Follower}
-use Rattle.lamps_eight.specs.declared.Held.{Held}
-use Rattle.lamps_eight.specs.declared.Held.TheVariants.{Nothing, Lit, Dark}
 use Rattle.lamps_eight.specs.declared.Lamp.{Lamp}
 use Rattle.lamps.specs.declared.Proving.{Proving}
 use Rattle.c_lamps.specs.Laws.{TakenAgain}
 use Rattle.lamps_bytes.proofs.Bytes.{kept_length}
 
--- at most three ticks are left
-abbrev young : Lamp → Type 0
-young l = leb l.left 3 ≡ true
-
-fits_next : (at : ℕ) (x : Mark) (l : Lamp) → young l → young (lamp_next at x l)
+fits_next : (at : ℕ) (x : Mark) (l : Lamp) → lamp_fits l ≡ true → lamp_fits (lamp_next at x l) ≡ true
 fits_next at Failed l h = refl
-fits_next at Ended l h = ended l.held refl
-  where
-    ended : (k : Held) → l.held ≡ k → young (lamp_next at Ended l)
-    ended Nothing e = rw e h
-    ended Lit e = rw e refl
-    ended Dark e = rw e refl
+fits_next at Ended l h =
+    by_test (eqb l.held 0) (λ q. rw q h)
+    (λ q. by_test (eqb l.held 1) (λ u. rw (q, u)) (λ u. rw (q, u)))
 fits_next at Ticked l h =
-    let n = leb-true l.left 3 h in
-    le-leb (l.left - 1) 3 (omega arith)
+    let both = and_split (leb l.held 2) (leb l.left 3) h in
+    let n = leb-true l.left 3 both.1 in
+    and_join (leb l.held 2) (leb (l.left - 1) 3) both.0 (le-leb (l.left - 1) 3 (omega arith))
 fits_next at (Gave a v) l h =
+    let left = (and_split (leb l.held 2) (leb l.left 3) h).1 in
     by_test (eqb a at)
-    (λ q. by_test (eqb v 1) (λ u. rw (q, u) h) (λ u. rw (q, u) h))
+    (λ q. by_test (eqb v 1) (λ u. rw (q, u) left) (λ u. rw (q, u) left))
     (λ q. rw q h)
 fits_next at Other l h = h
 
 pub record Fit (r : Proving) : Type 0 where
   pub place : r.follower.place < memory_size
-  pub zero : young r.lamps.zero
-  pub one : young r.lamps.one
-  pub two : young r.lamps.two
-  pub three : young r.lamps.three
-  pub four : young r.lamps.four
-  pub five : young r.lamps.five
-  pub six : young r.lamps.six
-  pub seven : young r.lamps.seven
+  pub zero : lamp_fits r.lamps.zero ≡ true
+  pub one : lamp_fits r.lamps.one ≡ true
+  pub two : lamp_fits r.lamps.two ≡ true
+  pub three : lamp_fits r.lamps.three ≡ true
+  pub four : lamp_fits r.lamps.four ≡ true
+  pub five : lamp_fits r.lamps.five ≡ true
+  pub six : lamp_fits r.lamps.six ≡ true
+  pub seven : lamp_fits r.lamps.seven ≡ true
 
 -- the address is one of the memory's
 gathered_place : (p : Phase) (f : Follower) (a : ℕ) (w line : Bool) → a < memory_size → f.place < memory_size
@@ -116,69 +109,41 @@ flag_small : (t : Bool) → leb (bit t 1) 1 ≡ true
 flag_small true = refl
 flag_small false = refl
 
-held_small : (h : Held) → leb (held_byte h) 2 ≡ true
-held_small Nothing = refl
-held_small Lit = refl
-held_small Dark = refl
-
 -- a record that fits writes bytes that hold one
 pub fit_kept : (r : Proving) → Fit r → is_kept (bytes_of r) ≡ true
 unfolding is_kept bytes_of
 fit_kept r g =
     let p = g.place in
-    let l = r.lamps in
     let high : leb (r.follower.place / 256) 31 ≡ true = le-leb (r.follower.place / 256) 31 (omega arith) in
-    rw (
-      flag_small r.follower.refused,
-      high,
-      held_small l.zero.held,
-      g.zero,
-      held_small l.one.held,
-      g.one,
-      held_small l.two.held,
-      g.two,
-      held_small l.three.held,
-      g.three,
-      held_small l.four.held,
-      g.four,
-      held_small l.five.held,
-      g.five,
-      held_small l.six.held,
-      g.six,
-      held_small l.seven.held,
-      g.seven,
-    ) refl
+    rw (flag_small r.follower.refused, high, g.zero, g.one, g.two, g.three, g.four, g.five, g.six, g.seven) refl
 
 -- bytes that hold a record hold one that fits
 pub kept_fit : (b : List ℕ) → is_kept b ≡ true → get_or b 2 0 < 256 → Fit (kept_of b)
 unfolding is_kept kept_of
 kept_fit b h low =
     let n = eq-eqb (length b) 20 (kept_length b h) in
-    let all : (leb (get_or b 0 0) 1 && leb (get_or b 1 0) 31 && lamps_fit b) ≡ true = rw n at h in
-    let front = and_split (leb (get_or b 0 0) 1 && leb (get_or b 1 0) 31) (lamps_fit b) all in
+    let all : (leb (get_or b 0 0) 1 && leb (get_or b 1 0) 31 && lamps_fit (lamps_in b)) ≡ true = rw n at h in
+    let front = and_split (leb (get_or b 0 0) 1 && leb (get_or b 1 0) 31) (lamps_fit (lamps_in b)) all in
     let high = leb-true (get_or b 1 0) 31 (and_split (leb (get_or b 0 0) 1) (leb (get_or b 1 0) 31) front.0).1 in
-    let f = λ (k : ℕ). lamp_fits b k in
-    let a7 = and_split (f 4 && f 6 && f 8 && f 10 && f 12 && f 14 && f 16) (f 18) front.1 in
-    let a6 = and_split (f 4 && f 6 && f 8 && f 10 && f 12 && f 14) (f 16) a7.0 in
-    let a5 = and_split (f 4 && f 6 && f 8 && f 10 && f 12) (f 14) a6.0 in
-    let a4 = and_split (f 4 && f 6 && f 8 && f 10) (f 12) a5.0 in
-    let a3 = and_split (f 4 && f 6 && f 8) (f 10) a4.0 in
-    let a2 = and_split (f 4 && f 6) (f 8) a3.0 in
-    let a1 = and_split (f 4) (f 6) a2.0 in
+    let l = lamps_in b in
+    let a7 = and_split (lamp_fits l.zero && lamp_fits l.one && lamp_fits l.two && lamp_fits l.three && lamp_fits l.four && lamp_fits l.five && lamp_fits l.six) (lamp_fits l.seven) front.1 in
+    let a6 = and_split (lamp_fits l.zero && lamp_fits l.one && lamp_fits l.two && lamp_fits l.three && lamp_fits l.four && lamp_fits l.five) (lamp_fits l.six) a7.0 in
+    let a5 = and_split (lamp_fits l.zero && lamp_fits l.one && lamp_fits l.two && lamp_fits l.three && lamp_fits l.four) (lamp_fits l.five) a6.0 in
+    let a4 = and_split (lamp_fits l.zero && lamp_fits l.one && lamp_fits l.two && lamp_fits l.three) (lamp_fits l.four) a5.0 in
+    let a3 = and_split (lamp_fits l.zero && lamp_fits l.one && lamp_fits l.two) (lamp_fits l.three) a4.0 in
+    let a2 = and_split (lamp_fits l.zero && lamp_fits l.one) (lamp_fits l.two) a3.0 in
+    let a1 = and_split (lamp_fits l.zero) (lamp_fits l.one) a2.0 in
     record {
       place = omega arith;
-      zero = few 4 a1.0;
-      one = few 6 a1.1;
-      two = few 8 a2.1;
-      three = few 10 a3.1;
-      four = few 12 a4.1;
-      five = few 14 a5.1;
-      six = few 16 a6.1;
-      seven = few 18 a7.1;
+      zero = a1.0;
+      one = a1.1;
+      two = a2.1;
+      three = a3.1;
+      four = a4.1;
+      five = a5.1;
+      six = a6.1;
+      seven = a7.1;
     }
-  where
-    few : (k : ℕ) → lamp_fits b k ≡ true → leb (get_or b (k + 1) 0) 3 ≡ true
-    few k q = (and_split (leb (get_or b k 0) 2) (leb (get_or b (k + 1) 0) 3) q).1
 
 -- what an accepted call leaves is taken again
 pub kept_again : TakenAgain

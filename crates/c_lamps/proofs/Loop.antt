@@ -1,17 +1,15 @@
 -- SPDX-License-Identifier: Apache-2.0
 -- The ways through the tests of the list run with the record.
 use Prim.Native.Nat.{ℕ, ◌≤◌, ◌<◌}
-use mathlib.Core.Path.{◌≡◌, refl, sym}
-use mathlib.Core.Bool.{Bool, true, false}
-use Rattle.std.specs.Bool.{then_some}
-use Rattle.std.specs.Option.{ok_or}
+use mathlib.Core.Path.{◌≡◌, sym}
+use mathlib.Core.Bool.{true, false}
 use Rattle.std.proofs.Common.{Ok, Err}
 use Rattle.wire.proofs.Tests.{by_test}
 use lib.Dec.{eqb}
 use mathlib.Core.List.{List}
 use lib.ListN.{length}
 use borrow.Author.Tests.{le-leb, lt-leb, eq-eqb, eqb-true}
-use Rattle.std.specs.Prelude.{Some, None}
+use Rattle.std.specs.Prelude.{Some}
 use Rattle.numbers.specs.Numbers.{accepted, wrong_state, unknown_event, short_answers}
 use Rattle.numbers.specs.declared.Refusal.{Refusal}
 use Rattle.numbers.specs.declared.Refusal.TheVariants.{WrongMemory, WrongState}
@@ -28,15 +26,6 @@ use Rattle.lamps.specs.Statement.{proven_by}
 use Rattle.lamps_bytes.specs.Kept.{kept_of, bytes_of, is_kept}
 use Rattle.c_lamps.specs.Run.{refused, written, shown, seen, outcome_of, RanInImage}
 use Rattle.lamps.specs.declared.Proving.{Proving}
-
--- bytes that hold a record, and bytes that hold none
-pub was_read : (t : Bool) (p r : Proving) → ok_or (then_some t p) WrongState ≡ Ok r → (t ≡ true) × (r ≡ p)
-was_read true p r e = (refl, cc)
-was_read false p r e = absurd cc
-
-pub unread : (t : Bool) (p : Proving) (r : Refusal) → ok_or (then_some t p) WrongState ≡ Err r → (t ≡ false) × (r ≡ WrongState)
-unread true p r e = absurd cc
-unread false p r e = (refl, cc)
 
 -- what was admitted, and what was not
 pub admitted_here : (i m : List ℕ) (x : Unit {0}) → admitted i m ≡ Ok x → Accepted i m

@@ -11,7 +11,6 @@ use Rattle.fm3130.specs.declared.State.{State}
 use Rattle.fm3130_image.specs.Image.{decode_of}
 use Rattle.fm3130_list.specs.Run.{run_of}
 use Rattle.fm3130_list.specs.Run as Plain
-use Rattle.lamps.specs.Step.{begun}
 use Rattle.lamps.specs.Statement.{proven_by, deserved, logged}
 use Rattle.lamps.specs.declared.Proving.{Proving}
 use Rattle.lamps_bytes.specs.Kept.{kept_size, kept_of, bytes_of, is_kept}

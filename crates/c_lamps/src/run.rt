@@ -21,7 +21,7 @@ use fm3130_image::read::state_at;
 use fm3130_image::write::image_of;
 use fm3130_list::all_known;
 use lamps::{Follower, Proving};
-use lamps_bytes::{read, write};
+use lamps_bytes::{is_kept, read, write};
 use numbers::{ACCEPTED, Refusal};
 use place_event::event::happen;
 
@@ -171,13 +171,16 @@ fn run_lamps(
         kept.old (shown result) image.new memory.new answers.new kept.new }
 {
     admit(image, memory)?;
-    let proving = read(kept).ok_or(Refusal::WrongState)?;
+    if !is_kept(kept) {
+        return Err(Refusal::WrongState);
+    }
     if !all_known(events) {
         return Err(Refusal::UnknownEvent);
     }
     if answers.len() < events.len() {
         return Err(Refusal::ShortAnswers);
     }
+    let proving = read(kept);
     let stepped = follow_in_parts(image, memory, events, answers, proving);
     write(stepped, kept);
     Ok(stepped.report())

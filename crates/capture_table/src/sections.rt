@@ -8,13 +8,14 @@ use crate::entries::entry_at;
 use crate::{Entry, Kind};
 
 // The entry of a kind.
-pub fn entry_of(file: &[u8], kind: Kind) -> Entry
+// Stays (fixed): a number, since `entry_of` gives the entry that the definition names for any number, which `Kind` would shut out
+pub fn entry_of(file: &[u8], kind: u32) -> Entry
     requires { first_faulty file.now ≡ None }
-    ensures { result ≡ entry_of file.now (kind_number kind) }
+    ensures { result ≡ entry_of file.now kind }
 {
     for n in 0..3 {
         let entry = entry_at(file, n);
-        if entry.kind == kind.number() {
+        if entry.kind == kind {
             return entry;
         }
     }
@@ -26,7 +27,7 @@ pub fn section(file: &[u8], kind: Kind) -> &[u8]
     requires { first_faulty file.now ≡ None }
     ensures { result.now ≡ section_of file.now (kind_number kind) }
 {
-    let entry = entry_of(file, kind);
+    let entry = entry_of(file, kind.number());
     let from = entry.from as usize;
     let to = from + entry.size as usize;
     &file[from..to]

@@ -12,13 +12,11 @@ use Rattle.lamps_eight.specs.Lit.{Last, nothing, gave, read_in, decided, lit_fro
 use Rattle.lamps_eight.specs.Eight.{lamp, lamp_ended, lamp_next}
 use Rattle.lamps_eight.specs.declared.Mark.{Mark}
 use Rattle.lamps_eight.specs.declared.Mark.TheVariants.{Failed, Ended, Ticked, Gave, Other}
-use Rattle.lamps_eight.specs.declared.Held.{Held}
-use Rattle.lamps_eight.specs.declared.Held.TheVariants.{Nothing, Lit, Dark}
 use Rattle.lamps_eight.specs.declared.Lamp.{Lamp}
 
-abbrev held_of : Last → Held
-held_of nothing = Nothing
-held_of (gave v) = cond (eqb v 1) Lit Dark
+abbrev held_of : Last → ℕ
+held_of nothing = 0
+held_of (gave v) = cond (eqb v 1) 1 2
 
 -- what the transaction under way gave, and for how many ticks more the lamp is lit
 pub record Shows (at : ℕ) (l : Lamp) (log : List Mark) : Type 0 where
@@ -36,7 +34,7 @@ earlier t n =
 
 -- a Stop, by what the transaction gave
 record Stopped (q : Last) (l : Lamp) (older : ℕ → Bool) : Type 0 where
-  pub held : (lamp_ended l).held ≡ Nothing
+  pub held : (lamp_ended l).held ≡ 0
   pub left : (t : ℕ) → decided q t (older t) ≡ ltb t (lamp_ended l).left
 
 stopped : (q : Last) (l : Lamp) (older : ℕ → Bool) → l.held ≡ held_of q → ((t : ℕ) → older t ≡ ltb t l.left)
@@ -44,10 +42,10 @@ stopped : (q : Last) (l : Lamp) (older : ℕ → Bool) → l.held ≡ held_of q 
 stopped nothing l older e h = record { held = rw e; left = λ t. rw e (h t) }
 stopped (gave v) l older e h =
     by_test (eqb v 1)
-    (λ q. let f : l.held ≡ Lit = e ∙ rw q in record { held = rw f; left = λ t. rw (f, q) })
-    (λ q. let f : l.held ≡ Dark = e ∙ rw q in record { held = rw f; left = λ t. rw (f, q) (never t) })
+    (λ q. let f : l.held ≡ 1 = e ∙ rw q in record { held = rw f; left = λ t. rw (f, q) })
+    (λ q. let f : l.held ≡ 2 = e ∙ rw q in record { held = rw f; left = λ t. rw (f, q) (never t) })
 
-pub shows_none : (at : ℕ) → Shows at (lamp Nothing 0) []
+pub shows_none : (at : ℕ) → Shows at (lamp 0 0) []
 unfolding read_in lit_from
 shows_none at = record { held = refl; left = never }
 

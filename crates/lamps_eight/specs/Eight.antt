@@ -6,29 +6,21 @@ use Rattle.std.specs.Prelude.{ℕ, ◌+◌, ◌-◌, Bool, cond, eqb, ltb}
 use Rattle.lamps_eight.specs.Lit.{lamp_address}
 use Rattle.lamps_eight.specs.declared.Mark.{Mark}
 use Rattle.lamps_eight.specs.declared.Mark.TheVariants.{Failed, Ended, Ticked, Gave, Other}
-use Rattle.lamps_eight.specs.declared.Held.{Held}
-use Rattle.lamps_eight.specs.declared.Held.TheVariants.{Nothing, Lit, Dark}
 use Rattle.lamps_eight.specs.declared.Lamp.{Lamp}
 use Rattle.lamps_eight.specs.declared.Lamps.{Lamps}
 
--- A lamp keeps what the transaction under way gave, and for how many ticks it is still lit.
-abbrev pub lamp : Held → ℕ → Lamp
+-- A lamp keeps what the transaction under way gave (0 nothing, 1 lit, 2 dark), and for how many ticks it is still lit.
+abbrev pub lamp : ℕ → ℕ → Lamp
 lamp h n = record { held = h; left = n }
 
--- A Stop, by what the transaction gave.
-abbrev pub ended_by : Held → Lamp → Lamp
-ended_by Nothing l = l
-ended_by Lit l = lamp Nothing 3
-ended_by Dark l = lamp Nothing 0
-
 abbrev pub lamp_ended : Lamp → Lamp
-lamp_ended l = ended_by l.held l
+lamp_ended l = cond (eqb l.held 0) l (cond (eqb l.held 1) (lamp 0 3) (lamp 0 0))
 
 abbrev pub lamp_gave : ℕ → Lamp → Lamp
-lamp_gave v l = cond (eqb v 1) (lamp Lit l.left) (lamp Dark l.left)
+lamp_gave v l = cond (eqb v 1) (lamp 1 l.left) (lamp 2 l.left)
 
 abbrev pub lamp_next : ℕ → Mark → Lamp → Lamp
-lamp_next at Failed l = lamp Nothing 0
+lamp_next at Failed l = lamp 0 0
 lamp_next at Ended l = lamp_ended l
 lamp_next at Ticked l = lamp l.held (l.left - 1)
 lamp_next at (Gave a v) l = cond (eqb a at) (lamp_gave v l) l
@@ -50,14 +42,14 @@ lamps_next x l =
 abbrev pub dark : Lamps
 dark =
     record {
-      zero = lamp Nothing 0;
-      one = lamp Nothing 0;
-      two = lamp Nothing 0;
-      three = lamp Nothing 0;
-      four = lamp Nothing 0;
-      five = lamp Nothing 0;
-      six = lamp Nothing 0;
-      seven = lamp Nothing 0;
+      zero = lamp 0 0;
+      one = lamp 0 0;
+      two = lamp 0 0;
+      three = lamp 0 0;
+      four = lamp 0 0;
+      five = lamp 0 0;
+      six = lamp 0 0;
+      seven = lamp 0 0;
     }
 
 abbrev pub bit : Bool → ℕ → ℕ

@@ -17,18 +17,11 @@ pub enum Mark {
     Other,
 }
 
-// What the transaction under way gave of a lamp's byte. Each has the number by which it lies in a record's bytes.
-#[derive(Clone, Copy, Debug, PartialEq, Eq)]
-pub enum Held {
-    Nothing = 0,
-    Lit = 1,
-    Dark = 2,
-}
-
-// A lamp: what the transaction under way gave, and for how many ticks it is still lit.
+// A lamp: what the transaction under way gave (0 nothing, 1 lit, 2 dark), and for how many ticks it is still lit.
 #[derive(Clone, Copy)]
 pub struct Lamp {
-    pub held: Held,
+    // Stays (fixed): a number, since `Lamps::next`, `Proving::step` and `lamps_bytes::read` take and give lamps of any byte, which an enum would shut out
+    pub held: u8,
     pub left: u8,
 }
 

@@ -1,10 +1,9 @@
 // SPDX-License-Identifier: Apache-2.0
 // The eight lamps, by what an event is to them.
 ghost use Rattle.std.specs.Prelude.{◌≡◌, ◌≤◌, ◌-◌};
-ghost use Rattle.lamps_eight.specs.declared.Held.TheVariants.{Nothing};
 ghost use Rattle.lamps_eight.specs.Eight.{lamp, lamp_ended, lamp_gave, lamp_next, lamps_next, dark, bit, shines, byte_of};
 
-use crate::{Held, Lamp, Lamps, Mark};
+use crate::{Lamp, Lamps, Mark};
 
 // The first lamp's address.
 const FIRST: u16 = 0x1000;
@@ -12,12 +11,9 @@ const FIRST: u16 = 0x1000;
 impl Lamp {
     // A lamp that is dark, with nothing read of it.
     fn dark() -> Lamp
-        ensures { result ≡ lamp Nothing 0 }
+        ensures { result ≡ lamp 0 0 }
     {
-        Lamp {
-            held: Held::Nothing,
-            left: 0,
-        }
+        Lamp { held: 0, left: 0 }
     }
 
     // A Stop: what the transaction gave becomes the lamp.
@@ -25,12 +21,9 @@ impl Lamp {
         ensures { result ≡ lamp_ended self }
     {
         match self.held {
-            Held::Nothing => self,
-            Held::Lit => Lamp {
-                held: Held::Nothing,
-                left: 3,
-            },
-            Held::Dark => Lamp::dark(),
+            0 => self,
+            1 => Lamp { held: 0, left: 3 },
+            _ => Lamp::dark(),
         }
     }
 
@@ -48,7 +41,7 @@ impl Lamp {
     fn gave(self, value: u8) -> Lamp
         ensures { result ≡ lamp_gave value self }
     {
-        let held = if value == 1 { Held::Lit } else { Held::Dark };
+        let held = if value == 1 { 1 } else { 2 };
         Lamp { held, ..self }
     }
 
