@@ -9,7 +9,7 @@ use crate::Deed;
 use bus::{Beat, Reply};
 
 // What taking a byte leaves, and whether the byte is acknowledged.
-// Stays (plain): a refused byte moves the address all the same, so both hold a companion.
+// Stays (plain): a refused data byte moves the address all the same, so the companion counts whatever the flag says.
 #[derive(Clone, Copy)]
 pub struct Taken<C> {
     pub companion: C,

@@ -2,7 +2,7 @@
 // Rows of Clocks where a transfer lies, in the image of any part: bits that are only kept, bits that are only sent, Clocks that
 // nobody hears. They touch bytes 27 and 28 alone. A part hands over the bits of its answers beside the line, which stay through
 // a row. Each function returns the place after the last event that it did.
-// Stays (fixed): a row ends at the first event that is no Clock, so its loop goes by the place, which is what it returns.
+// Stays (plain): a row ends at the first event that is no Clock, so its loop goes by the place, which is what it returns.
 #![tactic(auto)]
 
 ghost use Rattle.std.specs.Prelude.{◌≡◌, ◌<◌, ◌≤◌, length, get_or, set};

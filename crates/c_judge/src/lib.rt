@@ -5,8 +5,6 @@
 // judge      the verdict, its figures, and the entry for C
 #![tactic(auto)]
 
-use std::fmt;
-
 pub mod judge;
 mod replay;
 
@@ -22,24 +20,6 @@ pub enum Verdict {
     },
     Faulty(u8),
     TooLong,
-}
-
-impl fmt::Display for Verdict {
-    fn fmt<W: fmt::Write>(&self, f: &mut fmt::Formatter<W>) -> fmt::Result {
-        match self {
-            Verdict::Agree(count) => write!(f, "all agree: {count} answers"),
-            Verdict::Differs {
-                place,
-                recorded,
-                right,
-            } => write!(
-                f,
-                "answer {place} differs: recorded {recorded:02x}, right {right:02x}"
-            ),
-            Verdict::Faulty(entry) => write!(f, "entry {entry} is faulty"),
-            Verdict::TooLong => f.write_str("too long"),
-        }
-    }
 }
 
 // A verdict in figures: its number; the count, the place or the entry; and the two bytes of an answer that differs.

@@ -3,24 +3,22 @@
 // first number that fits, with nothing written; or told at the front of the lent buffer, whose other bytes stay.
 ghost use Rattle.std.specs.Prelude.{◌≡◌, ◌+◌, ◌*◌, ◌<◌, ◌≤◌, length};
 ghost use Rattle.std.proofs.lemmas.List.Edits.{sets};
-ghost use Rattle.wire.specs.Bits.{pushed};
-ghost use Rattle.wire_clocks.specs.Clocks.{lines_of};
-ghost use Rattle.c_master.specs.Told.{line_at, is_low, byte_from, is_open, is_open_read, flag_at, byte_at, list_of};
+ghost use Rattle.wire_clocks.specs.Clocks.{is_high, lines_of};
+ghost use Rattle.c_master.specs.Told.{is_low, byte_from, is_open, is_open_read, flag_at, byte_at, list_of};
 ghost use Rattle.c_master.specs.Outcome.{WriteToldSettled, ReadToldSettled};
+ghost use Rattle.c_master.specs.Refusal.{filled_told};
 
 use crate::Filled;
 use crate::refusals::{
-    LITTLE_ROOM, MOST, READ_OF_NONE, TOO_MANY, WRONG_ANSWERS, filled, read_count, refuse,
-    write_count,
+    Refusal, as_many, at_least_one, few_enough, has_room, read_count, write_count,
 };
 use wire::bits::push;
 
 // The line that an answer shows.
-fn is_high(answers: &[u8], at: usize) -> bool
-    requires { at < length answers.now }
-    ensures { result ≡ line_at (lines_of answers.now) at }
+fn is_high(answer: u8) -> bool
+    ensures { result ≡ is_high answer }
 {
-    answers[at] % 2 == 1
+    answer % 2 == 1
 }
 
 // Whether the line was low: at a ninth clock that the master leaves high, an acknowledge.
@@ -28,7 +26,7 @@ fn is_low(answers: &[u8], at: usize) -> bool
     requires { at < length answers.now }
     ensures { result ≡ is_low (lines_of answers.now) at }
 {
-    !is_high(answers, at)
+    !is_high(answers[at])
 }
 
 // Whether the slave byte and both address bytes were acknowledged.
@@ -36,7 +34,7 @@ fn is_open(answers: &[u8]) -> bool
     requires { 28 ≤ length answers.now }
     ensures { result ≡ is_open (lines_of answers.now) }
 {
-    is_low(answers, 9) & (is_low(answers, 18) & is_low(answers, 27))
+    [9, 18, 27].iter().all(|at| is_low(answers, *at))
 }
 
 // Of a read, whether the second slave byte was acknowledged too.
@@ -47,27 +45,14 @@ fn is_open_read(answers: &[u8]) -> bool
     is_open(answers) & is_low(answers, 37)
 }
 
-// A byte with the line that an answer shows as one more bit.
-fn with_line(byte: u8, answers: &[u8], at: usize) -> u8
-    requires { at < length answers.now }
-    ensures { result ≡ pushed byte (line_at (lines_of answers.now) at) }
-{
-    push(byte, is_high(answers, at))
-}
-
 // The byte on the line in eight answers.
 fn byte_from(answers: &[u8], at: usize) -> u8
     requires { at + 8 ≤ length answers.now }
     ensures { result ≡ byte_from (lines_of answers.now) at }
 {
-    let one = with_line(0, answers, at);
-    let two = with_line(one, answers, at + 1);
-    let three = with_line(two, answers, at + 2);
-    let four = with_line(three, answers, at + 3);
-    let five = with_line(four, answers, at + 4);
-    let six = with_line(five, answers, at + 5);
-    let seven = with_line(six, answers, at + 6);
-    with_line(seven, answers, at + 7)
+    answers[at..at + 8]
+        .iter()
+        .fold(0, |byte, answer| push(byte, is_high(*answer)))
 }
 
 // 1 for a data byte that was acknowledged, 0 for any other.
@@ -75,11 +60,7 @@ fn flag(ready: bool, answers: &[u8], i: usize) -> u8
     requires { (ready ≡ is_open (lines_of answers.now)) × (36 + 9 * i < length answers.now) }
     ensures { result ≡ flag_at (lines_of answers.now) i }
 {
-    if ready & is_low(answers, 36 + 9 * i) {
-        1
-    } else {
-        0
-    }
+    u8::from(ready & is_low(answers, 36 + 9 * i))
 }
 
 // A flag for each data byte.
@@ -103,23 +84,38 @@ fn put_bytes(count: usize, answers: &[u8], bytes: &mut [u8])
     }
 }
 
+// The tests of a write's answers in the order of their numbers, and how many flags were given.
+fn write_told(count: u64, answers: &[u8], flags: &mut [u8]) -> Result<usize, Refusal>
+    ensures { WriteToldSettled count answers.now flags.old (filled_told result) flags.new }
+{
+    let all = few_enough(count)?;
+    has_room(flags.len(), all)?;
+    as_many(answers.len(), write_count(all))?;
+    put_flags(all, answers, flags);
+    Ok(all)
+}
+
+// The tests of a read's answers in the order of their numbers, and how many bytes were given.
+fn read_told(count: u64, answers: &[u8], bytes: &mut [u8]) -> Result<usize, Refusal>
+    ensures { ReadToldSettled count answers.now bytes.old (filled_told result) bytes.new }
+{
+    let all = few_enough(count)?;
+    at_least_one(all)?;
+    has_room(bytes.len(), all)?;
+    as_many(answers.len(), read_count(all))?;
+    if !is_open_read(answers) {
+        return Ok(0);
+    }
+    put_bytes(all, answers, bytes);
+    Ok(all)
+}
+
 // Of a write of so many data bytes: a flag for each, 1 if it was acknowledged.
 #[unsafe(no_mangle)]
 pub extern "C" fn fm3130_write_told(count: u64, answers: &[u8], flags: &mut [u8]) -> Filled
     ensures { WriteToldSettled count answers.now flags.old result flags.new }
 {
-    if count > MOST {
-        return refuse(TOO_MANY);
-    }
-    let all = count as usize;
-    if flags.len() < all {
-        return refuse(LITTLE_ROOM);
-    }
-    if answers.len() != write_count(all) {
-        return refuse(WRONG_ANSWERS);
-    }
-    put_flags(all, answers, flags);
-    filled(all)
+    Filled::from(write_told(count, answers, flags))
 }
 
 // Of a read of so many data bytes: the bytes, or none if a slave or address byte went unacknowledged.
@@ -127,22 +123,5 @@ pub extern "C" fn fm3130_write_told(count: u64, answers: &[u8], flags: &mut [u8]
 pub extern "C" fn fm3130_read_told(count: u64, answers: &[u8], bytes: &mut [u8]) -> Filled
     ensures { ReadToldSettled count answers.now bytes.old result bytes.new }
 {
-    if count > MOST {
-        return refuse(TOO_MANY);
-    }
-    if count == 0 {
-        return refuse(READ_OF_NONE);
-    }
-    let all = count as usize;
-    if bytes.len() < all {
-        return refuse(LITTLE_ROOM);
-    }
-    if answers.len() != read_count(all) {
-        return refuse(WRONG_ANSWERS);
-    }
-    if !is_open_read(answers) {
-        return filled(0);
-    }
-    put_bytes(all, answers, bytes);
-    filled(all)
+    Filled::from(read_told(count, answers, bytes))
 }

@@ -66,6 +66,7 @@ impl State {
     }
 
     // One event of the ten, with its answer byte: the companion does what it is asked, the bus does the rest.
+    // Stays (plain): the FM3130's `tell` has the pin and what a tick told besides; what both do is `serve` and `Bus::happen`.
     pub fn advance(self, memory: &mut [u8], size: u16, select: u8, event: u8) -> Answered
         requires ready { Ready size self memory.old }
         requires event_le_last_event { event ≤ last_event }

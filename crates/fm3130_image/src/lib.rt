@@ -4,7 +4,7 @@
 // places  where an image holds what
 // read    the state in an image, and its parts
 // write   a state's image, whole or over another's
-// Stays (C): the image is a slice, as C lends it, so that its length is a fact and no type.
+// Stays (fixed): an image is a slice in every public function here; `[u8; 64]` is a narrower type, which asks more of callers.
 #![tactic(auto)]
 
 use fm3130::MEMORY_SIZE;

@@ -7,6 +7,7 @@ use crate::map::{FIRST, LB, POR};
 use crate::{Counters, Counts, Registers};
 
 // 09h with POR at 1.
+// Stays (plain): the FM3130's POR is another bit of another register; each is one sum.
 pub(crate) fn por_set(flags: u8) -> u8
     ensures { result ≡ por_set flags }
 {

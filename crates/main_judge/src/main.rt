@@ -7,15 +7,38 @@
 //   too long
 #![tactic(auto)]
 
+use c_judge::Verdict;
 use c_judge::judge::judge;
-use std::io;
 use std::io::Read;
+use std::{fmt, io};
 
 // One byte more than the longest capture, to know that there are more.
 const ROOM: u64 = 61441;
 
+// A verdict as a line of text.
+#[derive(Clone, Copy)]
+struct Said(Verdict);
+
+impl fmt::Display for Said {
+    fn fmt<W: fmt::Write>(&self, f: &mut fmt::Formatter<W>) -> fmt::Result {
+        match self.0 {
+            Verdict::Agree(count) => write!(f, "all agree: {count} answers"),
+            Verdict::Differs {
+                place,
+                recorded,
+                right,
+            } => write!(
+                f,
+                "answer {place} differs: recorded {recorded:02x}, right {right:02x}"
+            ),
+            Verdict::Faulty(entry) => write!(f, "entry {entry} is faulty"),
+            Verdict::TooLong => f.write_str("too long"),
+        }
+    }
+}
+
 fn main(rt: HostRuntime) -> io::Result<()> {
     let mut capture = Vec::new(rt.alloc());
     rt.reader().take(ROOM).read_to_end(&mut capture)?;
-    println!(rt; "{}", judge(&capture))
+    println!(rt; "{}", Said(judge(&capture)))
 }

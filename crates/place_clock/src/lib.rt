@@ -4,7 +4,8 @@
 // receive  a Clock in a byte that comes in
 // send     a Clock in a byte that goes out, and any Clock
 // Stays (C): the phase is asked by its number, which is what the image that C lends holds; `bus_image::Transfer` converts it.
-// Stays (C): the image and the memory are slices, as C lends them; `Accepted` carries both lengths.
+// Stays (fixed): the lent buffers are slices in every public function here, and arrays would ask more of callers; `Accepted` says
+// both lengths once.
 #![tactic(auto)]
 
 pub mod receive;

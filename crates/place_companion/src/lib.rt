@@ -1,7 +1,7 @@
 // SPDX-License-Identifier: Apache-2.0
 // The companion in a transfer where it lies, in its image: a register at its address, the core behind the registers, the
 // companion's own address behind the core. Nothing is read out of the image to be written back.
-// Stays (C): the image is a slice, as C lends it, so that its length is a fact and no type.
+// Stays (fixed): an image is a slice in every public function here; `[u8; 64]` is a narrower type, which asks more of callers.
 #![tactic(auto)]
 
 ghost use Rattle.std.specs.Prelude.{◌≡◌, ◌≤◌, length, get_or};

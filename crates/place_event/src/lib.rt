@@ -1,7 +1,8 @@
 // SPDX-License-Identifier: Apache-2.0
 // The device where it lies, in its image: an event changes the bytes that it must and no others. Nothing is read out of
 // the image to be written back.
-// Stays (C): the lent buffers are slices, each by itself, as C hands them over; `Accepted` carries both lengths.
+// Stays (fixed): the lent buffers are slices in every public function here, and arrays would ask more of callers; `Accepted` says
+// both lengths once.
 #![tactic(auto)]
 
 use calendar::Rolled;

@@ -1,6 +1,7 @@
 // SPDX-License-Identifier: Apache-2.0
 // What of a list of events is done next: a row of them where there is one, or one event.
-// Stays (C): the lent buffers are slices, each by itself, as C hands them over; `Accepted` carries both lengths.
+// Stays (fixed): the lent buffers are slices in every public function here, and arrays would ask more of callers; `Accepted` says
+// both lengths once.
 #![tactic(auto)]
 
 ghost use Rattle.std.specs.Prelude.{◌≡◌, true, false, cond, ◌/◌, ◌<◌, ◌≤◌, eqb, length, get_or};

@@ -1,7 +1,8 @@
 // SPDX-License-Identifier: Apache-2.0
 // Rows of events that are done together: Clocks inside a byte, Clocks that nobody hears, ticks of a core that was tested
 // once. Each function returns the place after the last event that it did. The rows of Clocks are those of every part.
-// Stays (C): the lent buffers are slices, each by itself, as C hands them over; `Accepted` carries both lengths.
+// Stays (fixed): the lent buffers are slices in every public function here, and arrays would ask more of callers; `Accepted` says
+// both lengths once.
 #![tactic(auto)]
 
 ghost use Rattle.std.specs.Prelude.{◌≡◌, true, ◌+◌, ◌/◌, ◌<◌, ◌≤◌, length, get_or};

@@ -1,6 +1,6 @@
 // SPDX-License-Identifier: Apache-2.0
 // A one-second tick of the companion where it lies, in its image.
-// Stays (C): the image is a slice, as C lends it, so that its length is a fact and no type.
+// Stays (fixed): an image is a slice in every public function here; `[u8; 64]` is a narrower type, which asks more of callers.
 #![tactic(auto)]
 
 ghost use Rattle.std.specs.Prelude.{◌≡◌, true, length};

@@ -22,7 +22,7 @@ pub struct Member {
 }
 
 // A set: the first `count` of four devices; the others are not on the line, and stay as they are.
-// Stays (fixed): four fields. The laws of sets (`law_ensemble`) hold of every set; an array is a list there, whose length each of
+// Stays (fixed): four fields. `law_ensemble/proofs/Pulls.one_pulls` and its fellows hold of every set; an array is a list there, whose length each of
 // them would have to ask for, and the memories beside it are four parameters of the C functions.
 #[derive(Clone, Copy)]
 pub struct Set {

@@ -1,10 +1,13 @@
 // SPDX-License-Identifier: Apache-2.0
 // Events laid into a lent buffer, one after another. Each function returns the place after what it laid.
+//
+// Stays (fixed): `Laid` has buffer and place apart, in lay_byte, lay_event, lay_opening, lay_written, lay_asked, all public.
 ghost use Rattle.std.specs.Prelude.{◌≡◌, [], ◌∷◌, ◌+◌, ◌*◌, ◌<◌, ◌≤◌, length};
 ghost use Rattle.wire_clocks.specs.Clocks.{clock_event, nine_clocks};
 ghost use Rattle.wire_clocks.specs.Events.{opening, all_written, asked_on};
 ghost use Rattle.wire_clocks.specs.Code.Laid.{Laid};
 
+use std::array::from_fn;
 use wire::bits::sending_line;
 
 // The events of the wire.
@@ -35,17 +38,14 @@ fn clock(high: bool) -> u8
 fn nine_clocks(byte: u8, ninth: bool) -> [u8; 9]
     ensures { result ≡ nine_clocks byte ninth }
 {
-    [
-        clock(sending_line(byte, 0, true)),
-        clock(sending_line(byte, 1, true)),
-        clock(sending_line(byte, 2, true)),
-        clock(sending_line(byte, 3, true)),
-        clock(sending_line(byte, 4, true)),
-        clock(sending_line(byte, 5, true)),
-        clock(sending_line(byte, 6, true)),
-        clock(sending_line(byte, 7, true)),
-        clock(ninth),
-    ]
+    from_fn(|done| {
+        let high = if done < 8 {
+            sending_line(byte, done as u8, true)
+        } else {
+            ninth
+        };
+        clock(high)
+    })
 }
 
 // A list of events.
@@ -83,9 +83,9 @@ pub fn lay_opening(address: u16, events: &mut [u8]) -> usize
 {
     let started = lay_event(START, events, 0);
     let named = lay_byte(WRITE_MEMORY, true, events, started);
-    // Stays (proof): with `to_be_bytes` the answer, `laid_then`, has a byte of an array where `opening` divides.
-    let half = lay_byte((address / 256) as u8, true, events, named);
-    lay_byte((address % 256) as u8, true, events, half)
+    let [high, low] = address.to_be_bytes();
+    let half = lay_byte(high, true, events, named);
+    lay_byte(low, true, events, half)
 }
 
 // Data bytes that are written. At each ninth clock the line is left to the device.
