@@ -101,20 +101,16 @@ fn is_of_word(letter: char) -> bool {
     letter.is_alphanumeric() || letter == '_'
 }
 
-/// The trait that the block at a line declares, or that a type has there.
-pub fn trait_at(lines: &[&str], from: usize) -> Option<String> {
+/// The trait in whose block a line stands, and whether the block declares it; else a type has it there.
+pub fn trait_at(lines: &[&str], from: usize) -> Option<(String, bool)> {
     let at = block_at(lines, from)?;
     match Block::of(&lines[at..from]) {
         Block::Trait => {
-            let named = lines[at]
-                .trim_start_matches("pub ")
-                .strip_prefix("trait ")?;
-            named
-                .split(|letter| !is_of_word(letter))
-                .next()
-                .map(str::to_string)
+            let named = lines[at].strip_prefix("pub trait ")?;
+            let end = named.find(|letter| !is_of_word(letter))?;
+            Some((named[..end].to_string(), true))
         }
-        Block::TypeOf { of, .. } => Some(of),
+        Block::TypeOf { of, .. } => Some((of, false)),
         Block::Other => None,
     }
 }
@@ -126,8 +122,8 @@ fn block_at(lines: &[&str], from: usize) -> Option<usize> {
             .iter()
             .any(|start| line.starts_with(start))
     };
-    let before = (0..from).rev().take_while(|at| lines[*at] != "}");
-    before.into_iter().find(|at| begins(lines[*at]))
+    let mut before = (0..from).rev().take_while(|at| lines[*at] != "}");
+    before.find(|at| begins(lines[*at]))
 }
 
 /// A block of a file that has functions.

@@ -43,7 +43,9 @@ fn head_of(line: &str) -> Option<&str> {
 struct Body<'a> {
     name: &'a str,
     of_trait: Option<String>,
-    /// What stands in its body; of what a trait declares there is none.
+    /// Whether a trait declares it, for types to have.
+    is_declared: bool,
+    /// What stands in its body; of what a trait declares there is none, or what types have that say nothing else.
     text: Option<String>,
 }
 
@@ -61,9 +63,13 @@ fn bodies(text: &str) -> Vec<Body<'_>> {
                 let body: Vec<&str> = below.take_while(|line| **line != end).copied().collect();
                 body.join("\n")
             });
+            let of_trait = public::trait_at(&lines, at);
             Body {
                 name,
-                of_trait: public::trait_at(&lines, at),
+                is_declared: of_trait
+                    .as_ref()
+                    .is_some_and(|(_, is_declared)| *is_declared),
+                of_trait: of_trait.map(|(of_trait, _)| of_trait),
                 text,
             }
         })
@@ -131,22 +137,21 @@ fn functions_of(code: &Code) -> Vec<Function> {
         Some(from) => Within::Crate(from.clone()),
         None => Within::Below(code.owner.clone()),
     };
-    let calls_of = |body: &Body| match (&body.text, &body.of_trait) {
-        (Some(text), _) => {
-            let calls = called(text)
-                .into_iter()
-                .chain(handed_on(text, &own, &imports));
-            let call = |(name, before): (&str, char)| Call {
-                name: name.to_string(),
-                within: within(name, before),
-            };
-            calls.map(call).collect()
-        }
-        (None, Some(of_trait)) => vec![Call {
+    let calls_of = |body: &Body| {
+        let text = body.text.as_deref().unwrap_or_default();
+        let calls = called(text)
+            .into_iter()
+            .chain(handed_on(text, &own, &imports));
+        let call = |(name, before): (&str, char)| Call {
+            name: name.to_string(),
+            within: within(name, before),
+        };
+        let by_types = body.of_trait.as_ref().filter(|_| body.is_declared);
+        let by_types = by_types.map(|of_trait| Call {
             name: body.name.to_string(),
             within: Within::Trait(of_trait.clone()),
-        }],
-        (None, None) => vec![],
+        });
+        calls.map(call).chain(by_types).collect()
     };
     let function = |body: &Body| Function {
         owner: code.owner.clone(),
