@@ -1,6 +1,7 @@
 // SPDX-License-Identifier: Apache-2.0
 //! Which functions of the crates are called when a function is, by the words of the code. A call of a method, or through the name of a
-//! type, is taken for one of every function of that name in the crate and those below it; so a little more is found than is called.
+//! type, is taken for one of every function of that name in the crate and those below it, and one of what a trait declares for one of
+//! every type that has the trait; so a little more is found than is called.
 
 use crate::crates;
 use crate::edits::top;
@@ -12,6 +13,8 @@ struct Function {
     owner: String,
     place: String,
     name: String,
+    /// The trait that declares it, or of which a type has it.
+    of_trait: Option<String>,
     calls: Vec<Call>,
 }
 
@@ -25,6 +28,7 @@ enum Within {
     File(String),
     Crate(String),
     Below(String),
+    Trait(String),
 }
 
 /// The name of the function whose head begins at a line.
@@ -35,18 +39,39 @@ fn head_of(line: &str) -> Option<&str> {
     is_head.then(|| after.split(['(', '<']).next().unwrap())
 }
 
+/// A function of a file, as far as words tell it.
+struct Body<'a> {
+    name: &'a str,
+    of_trait: Option<String>,
+    /// Whether a trait declares it, for types to have.
+    is_declared: bool,
+    /// What stands in its body; of what a trait declares there is none, or what types have that say nothing else.
+    text: Option<String>,
+}
+
 /// The functions of a file, each with the lines of its body.
-fn bodies(text: &str) -> Vec<(&str, String)> {
+fn bodies(text: &str) -> Vec<Body<'_>> {
     let lines: Vec<&str> = text.lines().collect();
     let heads = lines.iter().enumerate();
     let heads = heads.filter_map(|(at, line)| Some((at, head_of(line)?)));
     heads
         .map(|(at, name)| {
-            let below = lines[at..].iter().skip_while(|line| line.trim() != "{");
             let indent = lines[at].len() - lines[at].trim_start().len();
             let end = format!("{}}}", " ".repeat(indent));
-            let body: Vec<&str> = below.take_while(|line| **line != end).copied().collect();
-            (name, body.join("\n"))
+            let text = public::head_at(&lines, at).body.map(|from| {
+                let below = lines[from + 1..].iter();
+                let body: Vec<&str> = below.take_while(|line| **line != end).copied().collect();
+                body.join("\n")
+            });
+            let of_trait = public::trait_at(&lines, at);
+            Body {
+                name,
+                is_declared: of_trait
+                    .as_ref()
+                    .is_some_and(|(_, is_declared)| *is_declared),
+                of_trait: of_trait.map(|(of_trait, _)| of_trait),
+                text,
+            }
         })
         .collect()
 }
@@ -87,9 +112,23 @@ fn called(body: &str) -> Vec<(&str, char)> {
     found
 }
 
+/// The functions that are handed to another by their names, as `is_clear` in `places_are(set, is_clear)`.
+fn handed_on<'a>(
+    body: &'a str,
+    own: &BTreeSet<&str>,
+    imports: &BTreeMap<&str, String>,
+) -> Vec<(&'a str, char)> {
+    let words = body.split(|letter: char| "(,\n".contains(letter));
+    let alone = words.map(|word| word.trim().trim_end_matches(')'));
+    alone
+        .filter(|word| own.contains(word) || imports.contains_key(word))
+        .map(|word| (word, ' '))
+        .collect()
+}
+
 fn functions_of(code: &Code) -> Vec<Function> {
     let bodies = bodies(&code.text);
-    let own: BTreeSet<&str> = bodies.iter().map(|(name, _)| *name).collect();
+    let own: BTreeSet<&str> = bodies.iter().map(|body| body.name).collect();
     let imports = imports(code);
     let place_of = |name: &str| format!("{}/src/{}.{name}", code.owner, code.file);
     let within = |name: &str, before: char| match imports.get(name) {
@@ -98,17 +137,28 @@ fn functions_of(code: &Code) -> Vec<Function> {
         Some(from) => Within::Crate(from.clone()),
         None => Within::Below(code.owner.clone()),
     };
-    let function = |(name, body): &(&str, String)| Function {
-        owner: code.owner.clone(),
-        place: place_of(name),
-        name: name.to_string(),
-        calls: called(body)
+    let calls_of = |body: &Body| {
+        let text = body.text.as_deref().unwrap_or_default();
+        let calls = called(text)
             .into_iter()
-            .map(|(name, before)| Call {
-                name: name.to_string(),
-                within: within(name, before),
-            })
-            .collect(),
+            .chain(handed_on(text, &own, &imports));
+        let call = |(name, before): (&str, char)| Call {
+            name: name.to_string(),
+            within: within(name, before),
+        };
+        let by_types = body.of_trait.as_ref().filter(|_| body.is_declared);
+        let by_types = by_types.map(|of_trait| Call {
+            name: body.name.to_string(),
+            within: Within::Trait(of_trait.clone()),
+        });
+        calls.map(call).chain(by_types).collect()
+    };
+    let function = |body: &Body| Function {
+        owner: code.owner.clone(),
+        place: place_of(body.name),
+        name: body.name.to_string(),
+        of_trait: body.of_trait.clone(),
+        calls: calls_of(body),
     };
     bodies.iter().map(function).collect()
 }
@@ -132,6 +182,7 @@ pub fn reached(roots: &[&str]) -> BTreeSet<String> {
                 Within::File(place) => *place == function.place,
                 Within::Crate(owner) => *owner == function.owner,
                 Within::Below(owner) => below[owner].contains(&function.owner),
+                Within::Trait(of) => function.of_trait.as_ref() == Some(of),
             }
     };
     let is_root = |function: &&Function| roots.contains(&function.name.as_str());
@@ -145,4 +196,31 @@ pub fn reached(roots: &[&str]) -> BTreeSet<String> {
         }
     }
     reached
+}
+
+#[cfg(test)]
+mod tests {
+    use super::*;
+
+    #[test]
+    fn bodies_are_told() {
+        let text = "pub trait Part {\n    fn a(self)\n        ensures { q };\n}\n\nimpl Part for B {\n    fn a(self) {\n        \
+                    c(self)\n    }\n}\n\nfn c(b: B)\n    ensures { q }\n{\n    every(d, b)\n}\n";
+        let bodies = bodies(text);
+        let told: Vec<_> = bodies
+            .iter()
+            .map(|body| (body.name, body.of_trait.as_deref(), body.text.as_deref()))
+            .collect();
+        assert_eq!(
+            told,
+            [
+                ("a", Some("Part"), None),
+                ("a", Some("Part"), Some("        c(self)")),
+                ("c", None, Some("    every(d, b)")),
+            ]
+        );
+        let own = BTreeSet::from(["d"]);
+        let handed = handed_on("    every(d, b)", &own, &BTreeMap::new());
+        assert_eq!(handed, [("d", ' ')]);
+    }
 }

@@ -30,7 +30,7 @@ fn text_of(path: &Path) -> Option<String> {
     fs::read_to_string(path).ok()
 }
 
-/// Whether a line of an antt file defines a name: `name :`, `record name`, `data name`.
+/// Whether a line of an antt file defines a name: `name :`, `record name`, `data name`, `ruleset name`.
 fn defines(text: &str, name: &str) -> bool {
     text.lines().any(|line| {
         let words: Vec<&str> = line
@@ -39,7 +39,7 @@ fn defines(text: &str, name: &str) -> bool {
             .collect();
         match words[..] {
             [first, ":", ..] => first == name,
-            ["record" | "data", second, ..] => second == name,
+            ["record" | "data" | "ruleset", second, ..] => second == name,
             _ => false,
         }
     })
@@ -62,11 +62,26 @@ fn is_edit(folder: PathBuf, label: &str) -> bool {
     folder.join(format!("{label}.edit")).is_file()
 }
 
+/// Whether a Rattle file declares a type of a name, or has something of a trait for one: `Verdict` of `Verdict::fmt`.
+fn has_type(text: &str, name: &str) -> bool {
+    let starts = ["pub struct ", "pub enum "].map(|kind| format!("{kind}{name}"));
+    let of_trait = format!(" for {name} {{");
+    text.lines().any(|line| {
+        let declared = starts
+            .iter()
+            .find_map(|start| line.strip_prefix(start.as_str()));
+        declared.is_some_and(|rest| rest.starts_with([' ', '<', ';']))
+            || (line.starts_with("impl") && line.ends_with(&of_trait))
+    })
+}
+
 /// Whether a crate has a place such as `bits` or `bits.pushed` in its code.
 fn is_code(source: &Path, place: &str) -> bool {
     let (file, function) = place.split_once('.').unwrap_or((place, ""));
     let text = text_of(&source.join(format!("{file}.rt")));
-    text.is_some_and(|text| function.is_empty() || has_function(&text, function))
+    text.is_some_and(|text| {
+        function.is_empty() || has_function(&text, function) || has_type(&text, function)
+    })
 }
 
 /// Whether a folder of specs or proofs has a place such as `Clock` or `Clock.kept`.
@@ -106,8 +121,9 @@ fn is_there(name: &str, named_in: &Path) -> bool {
             ["edits", owner, label] => is_edit(top().join("edits").join(owner), label),
             [owner, "must-fail", label] => is_edit(crates.join(owner).join("must-fail"), label),
             [owner, "src", place] => is_code(&crates.join(owner).join("src"), place),
-            [owner, folder @ ("specs" | "proofs"), place] => {
-                is_stated(&crates.join(owner).join(folder), place)
+            [owner, folder @ ("specs" | "proofs"), ref inner @ .., place] => {
+                let folder = crates.join(owner).join(folder);
+                is_stated(&folder.join(inner.join("/")), place)
             }
             [first, ..] => !top().join(first).is_dir(),
             [] => true,
@@ -476,7 +492,9 @@ fn a_name_that_is_gone_is_noticed() {
     for name in [
         "wire/specs/Clock.kep",
         "wire/specs/Clok",
+        "bus/specs/Code/Outcome.Redy",
         "wire/src/bits.pus",
+        "c_judge/src/lib.Verdic",
         "wire/must-fail/none",
         "edits/wire/none",
         "twins/none",

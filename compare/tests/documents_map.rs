@@ -154,6 +154,21 @@ fn what_runs_is_told_from_what_does_not() {
     }
 }
 
+/// What a trait declares is done by each type that has it.
+#[test]
+fn what_a_trait_declares_leads_to_what_types_do() {
+    let reached = reached(&["advance"]);
+    for name in [
+        "bus_deeds/src/serve.serve",
+        "bus_deeds/src/serve.store",
+        "fm3130_companion/src/part.store",
+        "fm31_counters/src/part.store",
+        "fm3130_companion/src/write.written",
+    ] {
+        assert!(reached.contains(name), "{name}");
+    }
+}
+
 /// A file of specs that a line brings in, as the documents write it: `wire/specs/Bits`.
 fn file_used(line: &str) -> Option<String> {
     let path = line

@@ -193,7 +193,9 @@ fn a_crate_is_what_its_name_begins_with() {
             name.starts_with("main_"),
             "{name}: a program begins with main_"
         );
-        let code = ["fn ", "pub ", "struct ", "enum ", "const "];
+        let code = [
+            "fn ", "pub ", "struct ", "enum ", "const ", "static ", "trait ", "impl ", "impl<",
+        ];
         assert_eq!(
             !has(&files, &code),
             name.starts_with("law_"),

@@ -24,6 +24,9 @@ const EQUATIONS: &str = "equations";
 /// How it calls one that is in the list of the others.
 const OTHER_FORM: &str = "another, below";
 
+/// Whose definitions are the kit's, and no file of the tree: no record of ours.
+const STANDARD: &str = "std";
+
 /// The definitions that a file brings in, each with its crate and the file of its crate's specs.
 type Uses = BTreeMap<String, (String, String)>;
 
@@ -126,6 +129,9 @@ fn record_named(statement: &str, uses: &Uses) -> Option<String> {
         |owner: &str, file: &str| text_of(&top().join(format!("crates/{owner}/specs/{file}.antt")));
     let name = statement.split(' ').next()?;
     let (owner, file) = uses.get(name)?;
+    if owner == STANDARD {
+        return None;
+    }
     let specs = specs_of(owner, file);
     if is_of_equations(&specs, name) {
         return Some(format!("`{owner}/specs/{file}.{name}`"));
@@ -404,6 +410,41 @@ fn public_functions_are_told_from_others() {
     assert_eq!(told, [("x/src/y.c", true), ("x/src/y.d", false)]);
 }
 
+/// What a trait declares and what a type has of a trait is public too, with its clauses.
+#[test]
+fn functions_of_traits_are_public() {
+    let text = "// A part.\nuse a::serve::Desk;\n\npub trait Part: Copy {\n    fn a(self)\n        requires { p }\n        ensures { q };\n\n    \
+                fn b(self) -> u8;\n}\n\nfn c() {\n}\n\nimpl From<A> for B {\n    ghost from_gives = { λ a b. b ≡ f a.b b };\n\n    \
+                #[tactic(auto)]\n    fn from(a: A) -> B {\n        x(B { c: 1 })\n    }\n}\n\nimpl TryFrom<A> for u8 {\n    \
+                ghost try_from_gives = { Given };\n\n    fn try_from(a: A) -> u8 {\n    }\n}\n\nimpl Desk for B {\n    \
+                fn load(self) -> u8\n        requires { p }\n    {\n    }\n}\n\nstruct Own;\n\nimpl fmt::Display for Own {\n    \
+                fn fmt(&self) {\n    }\n}\n\npub fn d<F: Fn(u8) -> bool>(test: F) -> bool\n    ensures {\n        result ≡ g\n    }\n{\n}\n";
+    let code = Code {
+        owner: "x".to_string(),
+        file: "y".to_string(),
+        text: text.to_string(),
+    };
+    let found = code.public_functions();
+    let told: Vec<(&str, bool, &[String])> = found
+        .iter()
+        .map(|each| (each.name.as_str(), each.asks, &each.ensures[..]))
+        .collect();
+    let of = |clauses: &[&str]| -> Vec<String> {
+        clauses.iter().map(|clause| clause.to_string()).collect()
+    };
+    assert_eq!(
+        told,
+        [
+            ("x/src/y.a", true, &of(&["q"])[..]),
+            ("x/src/y.b", false, &[]),
+            ("x/src/y.B::from", false, &of(&["result ≡ f a.b result"])),
+            ("x/src/y.u8::try_from", false, &of(&["Given a result"])),
+            ("x/src/y.load", true, &[]),
+            ("x/src/y.d", false, &of(&["result ≡ g"])),
+        ]
+    );
+}
+
 #[test]
 fn the_form_of_every_contract_is_listed() {
     let must_be = rows_of(&other_contracts());
@@ -510,9 +551,12 @@ fn the_axioms_are_those_of_the_functions_called() {
         assert_eq!(number, called.len().to_string(), "{row}");
         for owner in names_in(&[row], 1) {
             let program = text_of(&top().join("crates").join(&owner).join("src/main.rt"));
-            for (handle, function) in [("impl Read", "read"), ("impl Print", "write")] {
+            for (handles, function) in [
+                (["impl Read", "rt.reader()"], "read"),
+                (["impl Print", "println!(rt;"], "write"),
+            ] {
                 assert_eq!(
-                    program.contains(handle),
+                    handles.iter().any(|handle| program.contains(handle)),
                     called.contains(function),
                     "{owner}"
                 );

@@ -5,7 +5,7 @@
 use compare::public::{self, Code};
 use std::collections::{BTreeMap, BTreeSet};
 
-/// A function's result, by the function's name.
+/// What functions of a name return, as it is written, by the name.
 type Results = BTreeMap<String, String>;
 
 /// The name that a text begins with.
@@ -22,7 +22,12 @@ fn lines_of(text: &str) -> impl Iterator<Item = &str> {
         .map(|line| line.strip_prefix("pub(crate) ").unwrap_or(line))
 }
 
-/// What the functions of a file return.
+/// The names in a text.
+fn words_of(text: &str) -> impl Iterator<Item = &str> {
+    text.split(|letter: char| !letter.is_alphanumeric() && letter != '_')
+}
+
+/// What the functions of a file return, a tuple or a type with parameters whole.
 fn results_in(text: &str) -> Results {
     let mut found = Results::new();
     let mut last = String::new();
@@ -30,10 +35,9 @@ fn results_in(text: &str) -> Results {
         if let Some(rest) = line.strip_prefix("fn ") {
             last = name_at(rest).to_string();
         }
-        if let Some((_, result)) = line.split_once(") -> ") {
-            found
-                .entry(last.clone())
-                .or_insert(name_at(result).to_string());
+        if let Some((_, result)) = line.rsplit_once(") -> ") {
+            let results = found.entry(last.clone()).or_default();
+            *results += &format!("{result} ");
         }
     }
     found
@@ -43,11 +47,17 @@ fn results_in(text: &str) -> Results {
 fn telling(all: &[Code]) -> BTreeSet<String> {
     let mut found = BTreeSet::from(["Rolled".to_string()]);
     for code in all {
-        let mut last = "";
+        let mut open = None;
         for line in lines_of(&code.text) {
-            last = line.strip_prefix("struct ").map_or(last, name_at);
-            if line.ends_with(": Rolled,") {
-                found.insert(last.to_string());
+            open = match line.strip_prefix("struct ") {
+                Some(rest) => Some(name_at(rest)),
+                None => open.filter(|_| line != "}"),
+            };
+            let (Some(named), Some((_, of))) = (open, line.split_once(": ")) else {
+                continue;
+            };
+            if words_of(of).any(|word| word == "Rolled") {
+                found.insert(named.to_string());
             }
         }
     }
@@ -59,10 +69,14 @@ fn result_of(all: &[Code], code: &Code, name: &str) -> Option<String> {
     if let Some(own) = results_in(&code.text).get(name) {
         return Some(own.clone());
     }
-    let ending = format!("::{name};");
-    let used =
-        lines_of(&code.text).find(|line| line.starts_with("use ") && line.ends_with(&ending))?;
-    let owner = match name_at(&used["use ".len()..]) {
+    let text = format!("\n{}", code.text);
+    let uses = text.split("\nuse ").skip(1);
+    let mut paths = uses.filter_map(|rest| Some(rest.split_once(';')?.0));
+    let used = paths.find(|path| {
+        let last = path.rsplit("::").next().unwrap();
+        words_of(last).any(|word| word == name)
+    })?;
+    let owner = match name_at(used) {
         "crate" => code.owner.as_str(),
         other => other,
     };
@@ -70,6 +84,12 @@ fn result_of(all: &[Code], code: &Code, name: &str) -> Option<String> {
     files
         .filter_map(|file| results_in(&file.text).get(name).cloned())
         .next()
+}
+
+/// The call of a line whose answer goes to `_`, all of it or a part: `let (next, _) = ..`.
+fn dropped(line: &str) -> Option<&str> {
+    let (pattern, call) = line.strip_prefix("let ")?.split_once(" = ")?;
+    words_of(pattern).any(|word| word == "_").then_some(call)
 }
 
 /// The calls of a file that are statements, from the name on that is called: those of one line, and those of several, whose last
@@ -84,7 +104,7 @@ fn statements_in(text: &str) -> Vec<&str> {
     let mut found = vec![];
     for (at, line) in lines_of(text).enumerate() {
         let is_long = line.ends_with('(') && ends_in(at).is_some_and(|last| last.trim() == ");");
-        let call = line.strip_prefix("let _ = ").unwrap_or(line);
+        let call = dropped(line).unwrap_or(line);
         match call.split_once('(') {
             Some((called, _)) if !called.contains(' ') && (is_long || line.ends_with(");")) => {
                 found.push(called);
@@ -98,7 +118,13 @@ fn statements_in(text: &str) -> Vec<&str> {
 /// The calls of a file that stand alone, or whose answer goes to a name that is none, and say what rolled over.
 fn bare_calls(all: &[Code], code: &Code) -> Vec<String> {
     let telling = telling(all);
-    let tells = |result: Option<String>| result.is_some_and(|result| telling.contains(&result));
+    let tells = |result: Option<String>| {
+        // what the companion of whatever part tells
+        let is_any = |result: &str| result.contains("::Told");
+        result.is_some_and(|result| {
+            is_any(&result) || words_of(&result).any(|word| telling.contains(word))
+        })
+    };
     let statements = statements_in(&code.text);
     let bare = statements
         .into_iter()
@@ -135,20 +161,27 @@ fn a_call_that_stands_alone_is_noticed() {
     };
     let below = "pub struct Told {\n    pub rolled: Rolled,\n}\n\
                  pub fn tick(image: &mut [u8]) -> Rolled\n{\n}\n\
-                 pub fn tell(self) -> Told {\n}\npub fn quiet(image: &mut [u8]) {\n}\n";
+                 pub fn tell(self) -> Told {\n}\npub fn quiet(image: &mut [u8]) {\n}\n\
+                 pub fn beat(self) -> (Self, Rolled)\n{\n}\npub fn serve<C: Desk>(companion: C) -> Served<C, C::Told>\n{\n}\n";
     for (line, is_noticed) in [
         ("tick(image);", true),
         ("let _ = tick(image);", true),
         ("state.tell();", true),
         ("tick(\n        image,\n    );", true),
         ("tick(\n        image,\n    )", false),
+        ("companion.beat();", true),
+        ("let (next, _) = companion.beat();", true),
+        ("let (next, told) = companion.beat();", false),
+        ("serve(companion);", true),
+        ("let served = serve(companion);", false),
         ("quiet(image);", false),
         ("let rolled = tick(image);", false),
         ("return tick(image);", false),
         ("unsaid(tick(image));", false),
         ("// tick(image);", false),
     ] {
-        let above = format!("use below::tick;\nuse below::quiet;\nfn f() {{\n    {line}\n}}\n");
+        let above =
+            format!("use below::tick;\nuse below::{{quiet, serve}};\nfn f() {{\n    {line}\n}}\n");
         let all = [file("below", below), file("above", &above)];
         assert_eq!(!bare_calls(&all, &all[1]).is_empty(), is_noticed, "{line}");
     }
