@@ -130,6 +130,7 @@ fn rings_on(alarm: Alarm, first: u32, days: Stretch) -> bool
     if has(alarm.date, MATCH) && has(alarm.month, MATCH) {
         return true;
     }
+    // Stays (plain): it goes from month to month, and by years where a month of the year is asked for, not from day to day.
     let mut day = days.from;
     let mut month = first;
     while day < days.to {

@@ -117,6 +117,7 @@ pub(crate) fn replay(image: &mut [u8], memory: &mut [u8], events: &[u8], answers
     requires events_known { all_known events.now ≡ true }
     ensures { result ≡ compared 0 (run_of (candidate image.old) memory.old events.now).answers answers.now }
 {
+    // Stays (plain): two lists go on by stretches together, and how many came before is a part of the verdict.
     let mut i = 0;
     while i < events.len() {
         let long = LONGEST.min(events.len() - i);
