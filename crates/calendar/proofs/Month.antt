@@ -1,16 +1,20 @@
 -- SPDX-License-Identifier: Apache-2.0
--- February's length in both of its cases, and the limits 28 and 31 of a month that exists: one test over the definition's
--- list; February's two lengths lie within the limits.
-use mathlib.Core.Path.{◌≡◌}
+-- The length of what is no month, February's length in both of its cases, and the limits 28 and 31 of a month that exists: one
+-- test over the definition's list; February's two lengths lie within the limits.
+use mathlib.Core.Path.{◌≡◌, sym}
 use mathlib.Core.Bool.{Bool, true, false, ◌&&◌, ◌||◌}
-use Prim.Native.Nat.{ℕ, ◌%◌, ◌≤◌}
+use Prim.Native.Nat.{ℕ, ◌%◌, ◌≤◌, ◌<◌}
 use native.Mathlib.Omega.{arith}
 use lib.Dec.{T, eqb, leb, leb→le}
-use lib.ListN.{get_or}
+use lib.ListN.{get_or, get_or-eq_default}
 use borrow.Author.Tests.{eq-eqb, ne_eqb}
 use Rattle.calendar.specs.Month.{month_length, common_lengths, pick}
 use Rattle.calendar.proofs.Tests.{and_left, and_right}
 use Rattle.calendar.proofs.Table.{every_at}
+
+pub month_length_none : (m y : ℕ) → 12 < m → 0 ≡ month_length m y
+unfolding month_length
+month_length_none m y h = rw (ne_eqb m 2 (λ e. omega arith)) (sym (get_or-eq_default common_lengths 0 h))
 
 pub month_length_leap : (m y : ℕ) → m ≡ 2 → y % 4 ≡ 0 → 29 ≡ month_length m y
 unfolding month_length
@@ -19,6 +23,10 @@ month_length_leap m y e z = rw (e, eq-eqb (y % 4) 0 z)
 pub month_length_february : (m y : ℕ) → m ≡ 2 → (y % 4 ≡ 0 → ⊥) → 28 ≡ month_length m y
 unfolding month_length
 month_length_february m y e n = rw (e, ne_eqb (y % 4) 0 n)
+
+pub month_length_zero : (m y : ℕ) → m ≡ 0 → 0 ≡ month_length m y
+unfolding month_length
+month_length_zero m y e = rw e
 
 or_right : (a b : Bool) → a ≡ false → T (a || b) → T b
 or_right a b e t = rw e at t

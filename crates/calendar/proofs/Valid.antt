@@ -1,6 +1,7 @@
 -- SPDX-License-Identifier: Apache-2.0
 -- A valid calendar, as a test and as the limits of its seven fields: the two say the same.
-use mathlib.Core.Bool.{Bool}
+use mathlib.Core.Path.{◌≡◌, sym}
+use mathlib.Core.Bool.{Bool, true, false, ◌&&◌, and-true, and-false}
 use mathlib.Core.List.{List, [], ◌∷◌}
 use lib.Dec.{T}
 use Rattle.calendar.specs.Field.{in_field}
@@ -51,3 +52,36 @@ valid_test c v =
     also in_field_test 1 12 c.month v.month
     also in_field_test 0 99 c.year v.year
     also none)
+
+-- the tests as they come one by one, the date and the month last
+module _ (c : Calendar) where
+  pub wrong_seconds : in_field 0 59 c.seconds ≡ false → false ≡ is_valid c
+  unfolding is_valid
+  wrong_seconds s = rw s
+
+  module _ (s : in_field 0 59 c.seconds ≡ true) where
+    pub wrong_minutes : in_field 0 59 c.minutes ≡ false → false ≡ is_valid c
+    unfolding is_valid
+    wrong_minutes m = rw (s, m)
+
+    module _ (m : in_field 0 59 c.minutes ≡ true) where
+      pub wrong_hours : in_field 0 23 c.hours ≡ false → false ≡ is_valid c
+      unfolding is_valid
+      wrong_hours h = rw (s, m, h)
+
+      module _ (h : in_field 0 23 c.hours ≡ true) where
+        pub wrong_day : in_field 1 7 c.day ≡ false → false ≡ is_valid c
+        unfolding is_valid
+        wrong_day d = rw (s, m, h, d)
+
+        module _ (d : in_field 1 7 c.day ≡ true) where
+          pub wrong_year : in_field 0 99 c.year ≡ false → false ≡ is_valid c
+          unfolding is_valid
+          wrong_year y =
+              rw (s, m, h, d, y) (sym (and-false (in_field 1 (length_of c) c.date && in_field 1 12 c.month)))
+
+          pub right_but_date : in_field 0 99 c.year ≡ true
+              → (in_field 1 (length_of c) c.date && in_field 1 12 c.month) ≡ is_valid c
+          unfolding is_valid
+          right_but_date y =
+              rw (s, m, h, d, y) (sym (and-true (in_field 1 (length_of c) c.date && in_field 1 12 c.month)))

@@ -12,7 +12,8 @@ use borrow.Author.Tests.{ltb-true, ltb-false, eqb-true, eqb-false}
 use Rattle.calendar.specs.Month.{month_length}
 use Rattle.calendar.specs.Instant.{month_start}
 use Rattle.calendar.proofs.Tests.{and_left, and_right}
-use Rattle.calendar.proofs.Instant.{month_start_first}
+use Rattle.calendar.proofs.Month.{month_length_limits}
+use Rattle.calendar.proofs.Instant.{month_start_next, month_start_first}
 use Rattle.law_century.proofs.Instants.{month_start_before}
 use Rattle.calendar_days.specs.Code.Places.{InMonth, StandsIn}
 
@@ -148,6 +149,17 @@ in_month_unique d j k m n = by_order (ltb j k) (ltb k j) refl refl
     by_order true t p q = omega (arith, month_start_before j k (ltb-true j k p), m.to, n.from)
     by_order false true p q = omega (arith, month_start_before k j (ltb-true k j q), n.to, m.from)
     by_order false false p q = omega (arith, ltb-false j k p, ltb-false k j q)
+
+-- a month's first day is in it
+pub month_first : (k : ℕ) → k < 2400 → InMonth (month_start k) k
+month_first k h =
+    let e = month_start_next k (k % 12 + 1) (k / 12) (omega arith) (omega arith) (omega arith) in
+    let l = month_length_limits (k % 12 + 1) (k / 12) (omega arith) (omega arith) in
+    record { known = h; from = omega arith; to = omega arith }
+
+-- a day well before the end is not in the last month
+pub month_not_last : (d k : ℕ) → InMonth d k → d < 73000 → k < 2399
+month_not_last d k m h = omega (arith, (month_start_near k).1, m.from)
 
 -- no day of these months is beyond the end of them
 pub month_start_most : (k : ℕ) → k < 2400 → month_start k < 73100
