@@ -24,6 +24,7 @@ use Rattle.bus.specs.Happening as part
 use Rattle.bus_deeds.specs.Serve.{at_last, at_ends, clock_deed, line_deed, deed_of, served_of, told_by, saying}
 use Rattle.bus_deeds.specs.declared.serve.Served.{Served}
 use Rattle.bus.specs.Code.Outcome.{left, went_on, went_of}
+use Rattle.bus.specs.Code.Outcome as bus-outcome
 use Rattle.bus.specs.declared.Bus.{Bus}
 use Rattle.bus_deeds.specs.declared.Deed.{Deed}
 use Rattle.bus.specs.declared.Power.{Power}
@@ -36,7 +37,7 @@ use Rattle.fm3130.specs.Event.{Happening, on_wire, beat, lost, gone, returned, h
 use Rattle.fm3130.specs.Answer.{answer_byte}
 use Rattle.fm3130.specs.Desk.{companion30}
 use Rattle.fm3130.specs.Code.Serving.{said_by}
-use Rattle.fm3130.specs.Step.{ToldWith}
+use Rattle.fm3130.specs.Step.{Ready, ToldWith}
 use Rattle.fm3130.specs.declared.State.{State}
 
 module _ (s : State) where
@@ -100,6 +101,10 @@ unfolding happening
 eight_alike e h =
     below (λ e. part.happening part.edges e ≡ happening e)
     (none then refl then refl then refl then refl then refl then refl then refl then refl) e (omega arith)
+
+-- what the bus asks before it does an event
+pub bus_ready : (s : State) (m : List ℕ) (u : Bus) → u ≡ bus_of s → Ready s m → bus-outcome.Ready memory_size u m
+bus_ready s m u h r = rw h (record { memory = r.memory; address = r.address })
 
 -- what the code below an event returns of a companion
 abbrev served_by : Deed → desk.Companion → Served desk.Companion Rolled

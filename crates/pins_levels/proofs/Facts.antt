@@ -2,6 +2,10 @@
 use mathlib.Core.Path.{◌≡◌, refl}
 use mathlib.Core.Bool.{Bool, true, false, cond, ◌&&◌, beq, false≢true}
 
+pub is_beq : (b : Bool) → b ≡ beq true b
+is_beq true = refl
+is_beq false = refl
+
 pub beq_is : (a b : Bool) → beq a b ≡ true → a ≡ b
 beq_is true true h = refl
 beq_is true false h = absurd (false≢true h)
