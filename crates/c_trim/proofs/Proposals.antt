@@ -7,7 +7,7 @@ use mathlib.Core.Path.{◌≡◌, refl, ap, subst, ◌∙◌}
 use mathlib.Core.Bool.{Bool, true, false, cond}
 use native.Mathlib.Omega.{arith}
 use native.Mathlib.Nat.{mul-le-mul_right, div-mul-le_self, lt-div-mul-add}
-use borrow.Author.Tests.{ltb-true, ltb-false}
+use borrow.Author.Tests.{ltb-true, ltb-false, lt-ltb, le-ltb}
 use lib.Dec.{T, ltb}
 use lib.IntN.{ℤ, pos, negsuc}
 use lib.Signed.{lt_z}
@@ -56,6 +56,15 @@ rounded_coded_by q false h = h refl
 rounded_coded : (t n : ℕ) → rounded_of t n ≤ last_code
 unfolding rounded_of
 rounded_coded t n = let q = (n + t / 2) / t in rounded_coded_by q (ltb last_code q) (ltb-false last_code q)
+
+-- the code's test is the definition's
+pub rounded_past : (t n : ℕ) → last_code < (n + t / 2) / t → rounded_of t n ≡ last_code
+unfolding rounded_of
+rounded_past t n h = rw (lt-ltb last_code ((n + t / 2) / t) h)
+
+pub rounded_within : (t n : ℕ) → (n + t / 2) / t ≤ last_code → rounded_of t n ≡ (n + t / 2) / t
+unfolding rounded_of
+rounded_within t n h = rw (le-ltb last_code ((n + t / 2) / t) h)
 
 -- ---- our setting
 

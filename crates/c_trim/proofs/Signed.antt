@@ -1,13 +1,14 @@
 -- SPDX-License-Identifier: Apache-2.0
--- Signed numbers by natural ones: how far from zero a sum or a difference is, by cases on the signs; that a distance below
--- 2 ^ 31 fits an i32; that the bits of a number that fits read back as that number; and the order of two numbers, compared.
+-- Signed numbers by natural ones: how far from zero a sum, a difference or a negation is, by cases on the signs; that a
+-- distance below 2 ^ 31 fits an i32; that the bits of a number that fits read back as that number; and the order of two
+-- numbers, compared.
 use Prim.Native.Nat.{ℕ, zero, suc, ◌+◌, ◌-◌, ◌^◌, ◌≤◌, ◌<◌}
-use mathlib.Core.Path.{◌≡◌, refl, sym, ap, ◌∙◌}
+use mathlib.Core.Path.{◌≡◌, refl, sym, ap, subst, ◌∙◌}
 use mathlib.Core.Bool.{Bool, true, false, cond, not}
 use native.Mathlib.Omega.{arith}
 use lib.Dec.{T, leb, ltb, ltb→lt, nltb→le}
-use lib.IntN.{ℤ, pos, negsuc, sub_ℕ, ◌+ℤ◌, ◌-ℤ◌}
-use lib.Signed.{lt_z, le_z}
+use lib.IntN.{ℤ, pos, negsuc, sub_ℕ, ◌+ℤ◌, ◌-ℤ◌, nat_abs}
+use lib.Signed.{non_neg, lt_z, le_z}
 use mir.Syntax.{w32}
 use mir.Val.{SFits, to_z, of_z}
 use mir.ValLaws.{to_z-of_z}
@@ -51,6 +52,25 @@ pub distance_take_le : (z : ℤ) (m : ℕ) → distance_of (z -ℤ pos m) ≤ di
 distance_take_le (pos n) m = omega (arith, distance_take_positive n m)
 distance_take_le (negsuc n) m = omega (arith, distance_take_negative n m)
 
+-- ---- a negation
+
+pub distance_negated : (z : ℤ) → distance_of (pos 0 -ℤ z) ≡ distance_of z
+distance_negated (pos zero) = refl
+distance_negated (pos (suc n)) = distance_sub 0 (suc n) ∙ omega arith
+distance_negated (negsuc n) = omega arith
+
+pub negated_nonneg : (z : ℤ) → lt_z z (pos 0) ≡ true → T (non_neg (pos 0 -ℤ z))
+negated_nonneg (pos n) t = let l = ltb→lt n 0 (subst T (sym t) tt) in absurd (omega arith)
+negated_nonneg (negsuc n) t = tt
+
+pub nonneg_of_not_less : (z : ℤ) → lt_z z (pos 0) ≡ false → T (non_neg z)
+nonneg_of_not_less (pos n) t = tt
+nonneg_of_not_less (negsuc n) t = subst T t tt
+
+pub natabs_distance : (z : ℤ) → nat_abs z ≡ distance_of z
+natabs_distance (pos n) = refl
+natabs_distance (negsuc n) = refl
+
 -- ---- an i32
 
 pub fits_of_distance : (z : ℤ) → distance_of z < 2 ^ 31 → SFits w32 z
@@ -72,6 +92,9 @@ read_sum y f q h = λ i. read_back f i +ℤ read_result y q h i
 pub read_difference : {z : ℤ} (y : ℤ) {m : ℕ} → SFits w32 z → y ≡ pos m → m < 2 ^ 31
     → to_z w32 (of_z w32 z) -ℤ to_z w32 (of_z w32 y) ≡ z -ℤ pos m
 read_difference y f q h = λ i. read_back f i -ℤ read_result y q h i
+
+pub read_negation : {z : ℤ} → SFits w32 z → pos 0 -ℤ to_z w32 (of_z w32 z) ≡ pos 0 -ℤ z
+read_negation f = λ i. pos 0 -ℤ read_back f i
 
 pub read_test : {z : ℤ} {b : Bool} → SFits w32 z → lt_z (to_z w32 (of_z w32 z)) (pos 0) ≡ b → lt_z z (pos 0) ≡ b
 read_test f q = ap (λ (x : ℤ). lt_z x (pos 0)) (sym (read_back f)) ∙ q
