@@ -1,8 +1,9 @@
 -- SPDX-License-Identifier: Apache-2.0
--- That every event on a device in its seat keeps its limits; the loop of a list of events, one event more and at the end. And a
--- device alone: at the first place each of the ten event bytes is heard as itself, and before it nobody answered.
+-- One event on a device in its seat, from what the code finds; that every event keeps its limits; the loop of a list of
+-- events, one event more and at the end. And a device alone: at the first place each of the ten event bytes is heard as
+-- itself, and before it nobody answered.
 use Prim.Native.Nat.{ℕ, ◌+◌, ◌/◌, ◌%◌, ◌≤◌, ◌<◌}
-use mathlib.Core.Path.{◌≡◌, refl, sym, ap, ◌∙◌}
+use mathlib.Core.Path.{◌≡◌, refl, sym, ap, subst, ◌∙◌}
 use mathlib.Core.Bool.{Bool, true, false, cond}
 use mathlib.Core.List.{List, [], ◌∷◌, ◌++◌, append_assoc}
 use native.Mathlib.Omega.{arith}
@@ -17,12 +18,14 @@ use Rattle.wire.proofs.Tests.{and_split, by_test}
 use Rattle.bus.specs.Select.{lone}
 use Rattle.bus_list.specs.Run as list
 use Rattle.bus_list.proofs.Runs.{answers_length}
-use Rattle.fm31.specs.Chip.{last_event}
+use Rattle.fm31.specs.Chip.{last_event, event_of}
 use Rattle.fm31.specs.Limits.{well_formed}
+use Rattle.fm31.specs.Step.{AnsweredWith}
 use Rattle.fm31.specs.Run.{Ended, following, after, run_of}
 use Rattle.fm31.specs.declared.State.{State}
+use Rattle.fm31.specs.declared.Answered.{Answered}
 use Rattle.fm31.proofs.Entry.{event_ok}
-use Rattle.fm31_run.specs.Seat.{hears_at, own_byte, joined_at, joined_over, heard_in, ran_in, RanAt}
+use Rattle.fm31_run.specs.Seat.{hears_at, own_byte, joined_at, joined_over, heard_in, ran_in, HeardAs, RanAt}
 use Rattle.fm31_run.specs.Code.Run.{RanThrough, all_known}
 use Rattle.fm31_run.specs.declared.Seat.{Seat}
 
@@ -33,6 +36,24 @@ own_test false e h = omega arith
 pub own_small : (e : ℕ) → own_byte e ≤ last_event
 unfolding own_byte
 own_small e = own_test (ltb e 8) e refl
+
+-- one event
+module _ (z : Seat) (s : State) (m : List ℕ) (e before : ℕ) where
+  pub heard_yes : (own v : ℕ) (r : Answered) (m' : List ℕ) → hears_at z.place e ≡ true → own ≡ own_byte e
+      → AnsweredWith z.size z.select r m' (event_of z.size z.select s m own)
+      → v ≡ joined_at z.place before r.answer
+      → HeardAs z s m e before (record { state = r.state; answer = v }) m'
+  heard_yes own v r m' k o a j =
+      let w = subst (λ (o : ℕ). AnsweredWith z.size z.select r m' (event_of z.size z.select s m o)) o a in
+      record {
+        state = rw k (ap (λ (r : Answered). r.state) w.result);
+        answer = j ∙ rw k (ap (λ (r : Answered). joined_at z.place before r.answer) w.result);
+        memory = rw k w.memory;
+      }
+
+  pub heard_no : (v : ℕ) → hears_at z.place e ≡ false → v ≡ joined_at z.place before 1
+      → HeardAs z s m e before (record { state = s; answer = v }) m
+  heard_no v k j = record { state = rw k refl; answer = j ∙ rw k refl; memory = rw k refl }
 
 -- it keeps a well-formed state well-formed, and the memory's length
 module _ (z : Seat) (s : State) (m : List ℕ) (e : ℕ) where
