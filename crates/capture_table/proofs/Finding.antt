@@ -1,7 +1,7 @@
 -- SPDX-License-Identifier: Apache-2.0
 -- In a sound file each kind is found, whichever entry has it, and there are as many events as answers.
 use Prim.Native.Nat.{ℕ, zero, suc, ◌+◌, ◌-◌, ◌≤◌, ◌<◌}
-use mathlib.Core.Path.{◌≡◌, sym, ap}
+use mathlib.Core.Path.{◌≡◌, sym, ap, ◌∙◌}
 use mathlib.Core.Bool.{true, false}
 use mathlib.Core.List.{List}
 use native.Mathlib.Omega.{arith}
@@ -99,6 +99,28 @@ module _ (f : List ℕ) (k : ℕ) where
 
   pub entry_found : (n : ℕ) (e : Entry) → index_of f k ≡ n → e ≡ entry_at f n → e ≡ entry_of f k
   entry_found n e i p = rw i p
+
+  is : (n : ℕ) (e : Entry) → e ≡ entry_at f n → e.kind ≡ k → eqb (entry_at f n).kind k ≡ true
+  is n e p h = eq-eqb _ _ (ap (λ (x : Entry). x.kind) (sym p) ∙ h)
+
+  pub isnt : (n : ℕ) (e : Entry) → e ≡ entry_at f n → (e.kind ≡ k → ⊥) → eqb (entry_at f n).kind k ≡ false
+  isnt n e p h = by_test (eqb (entry_at f n).kind k)
+      (λ t. absurd (h (ap (λ (x : Entry). x.kind) p ∙ eqb-true _ _ t)))
+      (λ t. t)
+
+  pub of_first : (e : Entry) → e ≡ entry_at f 0 → e.kind ≡ k → e ≡ entry_of f k
+  of_first e p h = rw (index_first f k (is 0 e p h)) p
+
+  module _ (a : eqb (entry_at f 0).kind k ≡ false) where
+    pub of_second : (e : Entry) → e ≡ entry_at f 1 → e.kind ≡ k → e ≡ entry_of f k
+    of_second e p h = rw (index_second f k a (is 1 e p h)) p
+
+    module _ (b : eqb (entry_at f 1).kind k ≡ false) where
+      pub of_third : (e : Entry) → e ≡ entry_at f 2 → e.kind ≡ k → e ≡ entry_of f k
+      of_third e p h = rw (index_third f k a b (is 2 e p h)) p
+
+      pub of_fourth : (e : Entry) → eqb (entry_at f 2).kind k ≡ false → e ≡ entry_at f 3 → e ≡ entry_of f k
+      of_fourth e c p = rw (index_fourth f k a b c) p
 
 -- what a file with no faulty entry holds
 module _ (f : List ℕ) (z : first_faulty f ≡ None) where

@@ -18,7 +18,13 @@ use Rattle.capture_table.specs.Table.{clashes, clashes_below, is_sound}
 use Rattle.capture_table.specs.Sections.{first_faulty}
 use Rattle.capture_table.specs.declared.Entry.{Entry}
 
--- one earlier entry more, which clashes or does not
+-- one earlier entry more
+pub clash_more : (f : List ℕ) (e : Entry) (i : ℕ) (any : Bool) → any ≡ clashes_below f e i
+    → (any || clashes e (entry_at f i)) ≡ clashes_below f e (i + 1)
+unfolding clashes_below
+clash_more f e i any h = rw (add-one i, h)
+
+-- which clashes or does not
 pub no_clash_more : (f : List ℕ) (e : Entry) (i : ℕ) → clashes_below f e i ≡ false → clashes e (entry_at f i) ≡ false
     → clashes_below f e (i + 1) ≡ false
 unfolding clashes_below
