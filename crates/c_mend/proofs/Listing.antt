@@ -59,6 +59,22 @@ module _ (xs ys : List ℕ) (i : ℕ) where
   unfolding changes_from
   changes_end h = rw (drop_of_length-le xs h)
 
+  count_more : i < length xs → i < length ys
+      → changed_count (drop i xs) (drop i ys)
+      ≡ changed (get_or xs i 0) (get_or ys i 0) + changed_count (drop (i + 1) xs) (drop (i + 1) ys)
+  unfolding changed_count
+  count_more h g = rw (add-one i, drop-cons xs i 0, drop-cons ys i 0)
+
+  -- the count with what was counted before
+  pub count_step : (count total r : ℕ) → i < length xs → i < length ys
+      → count + changed_count (drop i xs) (drop i ys) ≡ total → r ≡ changed (get_or xs i 0) (get_or ys i 0)
+      → count + r + changed_count (drop (i + 1) xs) (drop (i + 1) ys) ≡ total
+  count_step count total r h g e f = let more = count_more h g in omega arith
+
+  pub count_end : length xs ≤ i → changed_count (drop i xs) (drop i ys) ≡ 0
+  unfolding changed_count
+  count_end h = rw (drop_of_length-le xs h)
+
 pub changed_le : (a b : ℕ) → changed a b ≤ 1
 changed_le a b = by_test (eqb a b) (λ e. rw e (omega arith)) (λ e. rw e (omega arith))
 
