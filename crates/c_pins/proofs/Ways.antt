@@ -17,7 +17,7 @@ use Rattle.c_line.specs.Line.{pulls_of, told_by}
 use Rattle.c_line.specs.Code.Line.{pulls_with}
 use Rattle.std.proofs.Common.{Ok, Err}
 use Rattle.wire.proofs.Tests.{by_test}
-use Rattle.numbers.specs.Numbers.{wrong_memory}
+use Rattle.numbers.specs.Numbers.{wrong_memory, wrong_state}
 use Rattle.numbers.specs.Refusal.{number_of}
 use Rattle.numbers.specs.declared.Refusal.{Refusal}
 use Rattle.numbers.specs.declared.Refusal.TheVariants.{WrongMemory, WrongState}
@@ -68,6 +68,15 @@ module _ (i m : List ℕ) (v : Seen) (t r : Token) (e : t ≡ first_of v) where
       let g : x ≡ WrongMemory = cc in
       rw h (rw (g, e) at q))
 
+  pub begin_memory : (length m ≡ memory_size → ⊥) → r ≡ left t wrong_memory → r ≡ begin_of i m v
+  unfolding begin_of
+  begin_memory h q = rw (ne_eqb (length m) memory_size h) (q ∙ ap (λ (x : Token). left x wrong_memory) e)
+
+  pub begin_image : length m ≡ memory_size → is_image i ≡ false → r ≡ left t wrong_state → r ≡ begin_of i m v
+  unfolding begin_of
+  begin_image h k q =
+      rw (eq-eqb (length m) memory_size h, image_not_read i k) (q ∙ ap (λ (x : Token). left x wrong_state) e)
+
   pub begin_done : length m ≡ memory_size → is_image i ≡ true → r ≡ asked fm3130_on t (held (candidate i) m) → r ≡ begin_of i m v
   unfolding begin_of
   begin_done h k q =
@@ -106,6 +115,16 @@ module _ (i m : List ℕ) (d : Due) where
           let g : x ≡ WrongMemory = cc in
           let p = rw g at q in
           settle_on (outcome r i m) (rw (h, k) (ap (λ (y : Token). outcome y i m) p)))
+
+      pub settle_memory : (length m ≡ memory_size → ⊥) → r ≡ left d.token wrong_memory → outcome r i m ≡ settle_of i m d
+      settle_memory k q =
+          settle_on (outcome r i m) (rw (h, ne_eqb (length m) memory_size k) (ap (λ (x : Token). outcome x i m) q))
+
+      pub settle_image : length m ≡ memory_size → is_image i ≡ false → r ≡ left d.token wrong_state
+          → outcome r i m ≡ settle_of i m d
+      settle_image k l q =
+          settle_on (outcome r i m)
+          (rw (h, eq-eqb (length m) memory_size k, image_not_read i l) (ap (λ (x : Token). outcome x i m) q))
 
       pub settle_done : (i' m' : List ℕ) → Accepted i m → RanOn i m (events_of d) i' m'
           → r ≡ asked fm3130_on d.token (held (candidate i') m') → outcome r i' m' ≡ settle_of i m d
