@@ -8,9 +8,9 @@ use Rattle.wire.proofs.Tests.{by_test}
 use lib.Dec.{eqb}
 use mathlib.Core.List.{List}
 use lib.ListN.{length}
-use borrow.Author.Tests.{le-leb, lt-leb, eq-eqb, eqb-true}
-use Rattle.std.specs.Prelude.{Some}
-use Rattle.numbers.specs.Numbers.{accepted, wrong_state, unknown_event, short_answers}
+use borrow.Author.Tests.{le-leb, lt-leb, eq-eqb, ne_eqb, eqb-true}
+use Rattle.std.specs.Prelude.{Some, None}
+use Rattle.numbers.specs.Numbers.{accepted, wrong_memory, wrong_state, unknown_event, short_answers}
 use Rattle.numbers.specs.declared.Refusal.{Refusal}
 use Rattle.numbers.specs.declared.Refusal.TheVariants.{WrongMemory, WrongState}
 use Rattle.fm3130.specs.Chip.{memory_size}
@@ -48,7 +48,15 @@ module _ (i m es a b : List ℕ) where
       (λ q. let f : Err WrongMemory ≡ Err r = rw q at e in
       let g : r ≡ WrongMemory = cc in rw (g, q))
 
+  pub wrong_memory_lem : (length m ≡ memory_size → ⊥) → outcome_of i m es a b ≡ refused wrong_memory i m a b
+  unfolding outcome_of
+  wrong_memory_lem h = rw (ne_eqb (length m) memory_size h)
+
   module _ (h : length m ≡ memory_size) where
+    pub wrong_image : decode_of i ≡ None → outcome_of i m es a b ≡ refused wrong_state i m a b
+    unfolding outcome_of
+    wrong_image d = rw (eq-eqb (length m) memory_size h, d)
+
     module _ (s : State) (d : decode_of i ≡ Some s) where
       pub wrong_kept : is_kept b ≡ false → outcome_of i m es a b ≡ refused wrong_state i m a b
       unfolding outcome_of

@@ -2,8 +2,8 @@
 -- The list in parts: one event as a part; a part more; all. What is left of the list, run from here with the record, gives
 -- what the whole gives.
 use Prim.Native.Nat.{ℕ, ◌+◌, ◌-◌, ◌<◌, ◌≤◌}
-use mathlib.Core.Path.{◌≡◌, sym, ap, ◌∙◌}
-use mathlib.Core.Bool.{true}
+use mathlib.Core.Path.{◌≡◌, refl, sym, ap, ◌∙◌}
+use mathlib.Core.Bool.{true, false}
 use mathlib.Core.List.{List, [], ◌∷◌, ◌++◌, append-nil, append_assoc}
 use native.Mathlib.Omega.{arith}
 use lib.ListN.{length, take, drop, get_or, set, length-append, length-drop, drop_of_length-le, take-append-drop}
@@ -20,9 +20,12 @@ use Rattle.place_rows.proofs.Ledger.{image_accepted, lies}
 use Rattle.fm3130_list.specs.Run.{Ended, following, run_of, all_known}
 use Rattle.fm3130_list.proofs.Pieces.{run_append, answers_length, known_append}
 use Rattle.fm3130_list.proofs.Runs.{run_done, run_ok}
+use Rattle.lamps.specs.Log.{clocks_of}
 use Rattle.lamps.specs.Step.{step_of}
 use Rattle.lamps.specs.Statement.{proven_by}
+use Rattle.lamps.specs.declared.Follower.{Follower}
 use Rattle.lamps.specs.declared.Proving.{Proving}
+use Rattle.c_lamps.specs.Row.{Clocks, Row}
 use Rattle.c_lamps.specs.Run.{RanWith, RanInImage}
 use Rattle.c_lamps.proofs.Pieces.{proven_append}
 
@@ -55,10 +58,29 @@ part_known i n es k =
 pub all_left : (l : List ℕ) (i : ℕ) → take (length l - i) (drop i l) ≡ drop i l
 all_left l i = take_all (length l - i) (drop i l) (simp length-drop (omega arith))
 
+-- how many events are left, where a part of them ends, and that it is a row where it has more than one
+pub some_left : (l : List ℕ) (i : ℕ) → i < length l → 0 < length (take (length l - i) (drop i l))
+some_left l i h = rw (all_left l i) (simp length-drop (omega arith))
+
 pub part_inside : (l : List ℕ) (i k : ℕ) → i < length l → k ≤ length (take (length l - i) (drop i l)) → i + k ≤ length l
 part_inside l i k h g =
     let z : length (take (length l - i) (drop i l)) ≡ length l - i = ap length (all_left l i) ∙ length-drop i l in
     omega arith
+
+pub part_row : (s : State) (f : Follower) (es : List ℕ) (i k n : ℕ) → i + k ≤ length es → n ≡ k
+    → (1 < k
+    → (f.refused ≡ false) × Clocks (take k (take (length es - i) (drop i es))) × (clocks_of s.phase + k ≤ 8))
+    → 1 < length (take n (drop i es)) → Row s f (take n (drop i es))
+part_row s f es i k n h q g t =
+    let z = part_length es i n (omega arith) in
+    let w = g (omega arith) in
+    let few = w.2 in
+    record {
+      unrefused = w.0;
+      clocks = rw q (rw (all_left es i) at w.1);
+      some = omega arith;
+      few = omega arith;
+    }
 
 -- so many events are done, on an accepted image
 pub record Upto (es a₀ : List ℕ) (s₀ : State) (p₀ : Proving) (m₀ : List ℕ) (i : ℕ) (b m a : List ℕ) (p : Proving) : Type 0 where
@@ -68,6 +90,10 @@ pub record Upto (es a₀ : List ℕ) (s₀ : State) (p₀ : Proving) (m₀ : Lis
   pub run : following (take i a) (run_of (candidate b) m (drop i es)) ≡ run_of s₀ m₀ es
   pub rest : drop i a ≡ drop i a₀
   pub proven : proven_by p (candidate b) m (drop i es) ≡ proven_by p₀ s₀ m₀ es
+
+pub upto_none : (es a : List ℕ) (p : Proving) (b m : List ℕ) → Accepted b m → Upto es a (candidate b) p m 0 b m a p
+upto_none es a p b m c =
+    record { inside = omega arith; accepted = c; room = refl; run = refl; rest = refl; proven = refl }
 
 proven_end : (p : Proving) (s : State) (m es : List ℕ) (i : ℕ) → length es ≤ i → proven_by p s m (drop i es) ≡ p
 proven_end p s m es i h = rw (drop_of_length-le es h)

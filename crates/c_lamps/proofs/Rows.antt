@@ -6,9 +6,11 @@ use mathlib.Core.Path.{◌≡◌, refl, sym, ap, ◌∙◌}
 use mathlib.Core.Bool.{Bool, true, false, cond, not, ◌&&◌}
 use mathlib.Core.List.{List, [], ◌∷◌, ◌++◌, append-nil}
 use native.Mathlib.Omega.{arith}
+use native.Mathlib.Numerals.{add-one}
 use Rattle.std.specs.List.{prefix_len}
 use lib.Dec.{eqb, leb}
-use lib.ListN.{length, take, get_or, drop_of_length-le}
+use lib.ListN.{length, take, drop, get_or, drop_of_length-le}
+use lib.Seq.{drop-cons}
 use borrow.Author.Tests.{eq-eqb, ne_eqb, eqb-true, eqb-false, leb-true, leb-false}
 use Rattle.wire.specs.Bits.{pushed, sent_bit}
 use Rattle.wire.specs.declared.Side.TheVariants.{Memory, Companion}
@@ -38,7 +40,7 @@ use Rattle.lamps.specs.Step.{following, at_rest, refusing, gathered_at, gathered
 use Rattle.lamps.specs.Statement.{answered_by, proven_by}
 use Rattle.lamps.specs.declared.Follower.{Follower}
 use Rattle.lamps.specs.declared.Proving.{Proving}
-use Rattle.c_lamps.specs.Row.{Clocks, rowed_by, Row, proving_of, RowDone}
+use Rattle.c_lamps.specs.Row.{Clocks, gathered_over, rowed_by, Row, proving_of, RowDone}
 
 abbrev number : Phase → ℕ
 number p = (transfer_of p).phase
@@ -243,6 +245,29 @@ row_proven s f m es l w h =
     ∙ rw (t, ← idle_by (run_of s m es).state.phase) refl)
 
 -- the front of a list, all of it Clocks
+pub clocks_front : (n : ℕ) (es : List ℕ) → n ≤ length es → ((x : ℕ) → x < n → get_or es x 0 / 2 ≡ 1) → Clocks (take n es)
+clocks_front zero es l h = tt
+clocks_front (suc n) [] l h = absurd (omega arith)
+clocks_front (suc n) (e ∷ es) l h = (h 0 (omega arith), clocks_front n es (omega arith) (λ x t. h (suc x) (omega arith)))
+
+pub clocks_more : (es : List ℕ) (i : ℕ) → ((x : ℕ) → x < i → get_or es x 0 / 2 ≡ 1) → get_or es i 0 / 2 ≡ 1
+    → (x : ℕ) → x < i + 1 → get_or es x 0 / 2 ≡ 1
+clocks_more es i h e x l =
+    by_test (eqb x i) (λ t. ap (λ (y : ℕ). get_or es y 0 / 2) (eqb-true x i t) ∙ e)
+    (λ t. h x (let n = eqb-false x i t in omega arith))
+
+-- one answer more is gathered, and all
+pub over_more : (k : ℕ) (f : Follower) (a : ℕ) (xs : List ℕ) (i : ℕ) → i < length xs
+    → gathered_over (k + 1) (gathered_at k f a false (is_high (get_or xs i 0))) a (drop (i + 1) xs)
+    ≡ gathered_over k f a (drop i xs)
+over_more k f a xs i h =
+    ap (λ (n : ℕ). gathered_over (k + 1) (gathered_at k f a false (is_high (get_or xs i 0))) a (drop n xs)) (add-one i)
+    ∙ sym (ap (λ (l : List ℕ). gathered_over k f a l) (drop-cons xs i 0 h))
+
+pub over_all : (k : ℕ) (f : Follower) (a : ℕ) (xs : List ℕ) (i : ℕ) → length xs ≤ i → f ≡ gathered_over k f a (drop i xs)
+over_all k f a xs i h = sym (ap (λ (l : List ℕ). gathered_over k f a l) (drop_of_length-le xs h))
+
+-- the Clocks at the front of a list, as many as there are, and of its first so many
 abbrev pub front : List ℕ → ℕ
 front es = prefix_len (λ e. eqb (e / 2) 1) es
 
@@ -251,12 +276,12 @@ front_within [] = omega arith
 front_within (e ∷ es) =
     let l = front_within es in by_test (eqb (e / 2) 1) (λ q. rw q (omega arith)) (λ q. rw q (omega arith))
 
-pub clocks_front : (m : ℕ) (es : List ℕ) → Clocks (take (front (take m es)) es)
-clocks_front zero [] = tt
-clocks_front zero (e ∷ es) = tt
-clocks_front (suc m) [] = tt
-clocks_front (suc m) (e ∷ es) =
-    by_test (eqb (e / 2) 1) (λ q. rw (q, one_more (front (take m es))) (eqb-true (e / 2) 1 q, clocks_front m es)) (λ q. rw q tt)
+pub front_clocks : (m : ℕ) (es : List ℕ) → Clocks (take (front (take m es)) es)
+front_clocks zero [] = tt
+front_clocks zero (e ∷ es) = tt
+front_clocks (suc m) [] = tt
+front_clocks (suc m) (e ∷ es) =
+    by_test (eqb (e / 2) 1) (λ q. rw (q, one_more (front (take m es))) (eqb-true (e / 2) 1 q, front_clocks m es)) (λ q. rw q tt)
   where
     one_more : (n : ℕ) → 1 + n ≡ suc n
     one_more n = omega arith
