@@ -8,8 +8,7 @@ ghost use Rattle.std.specs.Prelude.{◌≡◌};
 ghost use Rattle.numbers.specs.Refusal.{number_told};
 ghost use Rattle.c_step.specs.Single.{SingleSettled};
 
-use fm3130_accept::is_image;
-use fm3130_image::MEMORY;
+use fm3130_accept::admit;
 use numbers::{Refusal, number_told};
 use place_event::event::tell;
 
@@ -22,12 +21,7 @@ fn step(image: &mut [u8], memory: &mut [u8], event: u64, told: &mut [u8]) -> Res
     ensures { SingleSettled image.old memory.old event told.old
         (number_told result) image.new memory.new told.new }
 {
-    if memory.len() != MEMORY {
-        return Err(Refusal::WrongMemory);
-    }
-    if !is_image(image) {
-        return Err(Refusal::WrongState);
-    }
+    admit(image, memory)?;
     if event > 7 {
         return Err(Refusal::UnknownEvent);
     }
