@@ -35,7 +35,7 @@ use Rattle.fm31_image.proofs.Accepts.{image_well, image_written, image_long}
 use Rattle.fm31_place.specs.Lying.{Accepted, Served, Answered}
 
 -- a bus that is written into an image
-bus_written : (s : State) (i i' : List ℕ) (u : Bus) → i ≡ image_of s → i' ≡ sets i ADDRESS_HIGH_AT (bus_bytes u)
+pub bus_written : (s : State) (i i' : List ℕ) (u : Bus) → i ≡ image_of s → i' ≡ sets i ADDRESS_HIGH_AT (bus_bytes u)
     → i' ≡ image_of (record { bus = u; counters = s.counters })
 unfolding image_of
 bus_written s i i' u e w = w ∙ rw e refl
@@ -79,7 +79,7 @@ module _ (size select : ℕ) (i m : List ℕ) (c : Accepted size select i m) whe
         → g ≡ get_or i 2 0 / WP0 % 4 → q ≡ deed_of u.power u.phase (happening edges e)
         → ((s : State) → i ≡ image_of s → u ≡ s.bus → Served s (Serve.served_of companion31 q s.counters) r i₁)
         → left w m' ≡ went_of size (slave_names_for select) g r u m e
-        → i' ≡ sets i₁ ADDRESS_HIGH_AT (bus_bytes w.bus)
+        → ((s : State) → i₁ ≡ image_of s → i' ≡ image_of (record { bus = w.bus; counters = s.counters }))
         → a ≡ answer_byte w.line → Answered size select (event_of size select (candidate i) m e) a i' m'
     happened m' i₁ i' e g q r w a hg hq hs hw hp ha =
         let s = candidate i in
@@ -91,7 +91,7 @@ module _ (size select : ℕ) (i m : List ℕ) (c : Accepted size select i m) whe
         (hq ∙ ap (λ (x : Bus). deed_of x.power x.phase (happening edges e)) bus_lies) refl w' ha in
         record {
           answer = ap (λ (x : answered.Answered). x.answer) z.result;
-          image = bus_written _ i₁ i' w.bus t.image hp ∙ ap (λ (x : answered.Answered). image_of x.state) z.result;
+          image = hp _ t.image ∙ ap (λ (x : answered.Answered). image_of x.state) z.result;
           memory = z.memory;
         }
 

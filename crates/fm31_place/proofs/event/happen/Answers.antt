@@ -2,7 +2,7 @@
 -- The companion's part and the bus's, put together.
 use mathlib.Core.Path.{refl}
 use native.Mathlib.Omega.{arith}
-use Rattle.fm31_place.proofs.Lying.{long, companion_ready, bus_ready, served_long, happened}
+use Rattle.fm31_place.proofs.Lying.{long, companion_ready, bus_ready, served_long, bus_written, happened}
 use Rattle.fm31_place.proofs.event.happen.Goals as goal
 
 pub bus_at-bus-requires : goal.bus_at-bus-requires
@@ -31,4 +31,4 @@ returns c =
     let b = v in
     let s = b in
     happened _ _ _ _ s.requires.accepted _ b.bus_at-bus.ensures _ _ _ _ _ _ _ _ _ refl v.deed_of.ensures
-    v.serve_at-reply.ensures c.happen-went.ensures c.write_bus.ensures c.answer_byte.ensures
+    v.serve_at-reply.ensures c.happen-went.ensures (λ s e. bus_written s _ _ _ e c.write_bus.ensures) c.answer_byte.ensures
