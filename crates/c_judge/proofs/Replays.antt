@@ -1,7 +1,7 @@
 -- SPDX-License-Identifier: Apache-2.0
 -- The replay: a byte read through a reader, one answer beside another, a stretch of events more, and at the end. What is
 -- left of the events, compared from here, gives the whole verdict.
-use Prim.Native.Nat.{ℕ, suc, ◌+◌, ◌≤◌, ◌<◌}
+use Prim.Native.Nat.{ℕ, zero, suc, ◌+◌, ◌≤◌, ◌<◌}
 use mathlib.Core.Path.{◌≡◌, refl, sym, ap, ◌∙◌}
 use mathlib.Core.Bool.{true, false, cond, false≢true}
 use mathlib.Core.List.{List, [], ◌∷◌, ◌++◌}
@@ -9,7 +9,7 @@ use native.Mathlib.Omega.{arith}
 use native.Mathlib.Numerals.{add-one}
 use lib.Dec.{eqb}
 use lib.ListN.{length, take, drop, get_or, replicate, length-replicate, length-drop, drop_of_length-le, take-append-drop}
-use lib.Seq.{drop-cons, length-take-le, get_or-take, get_or-drop, drop-drop}
+use lib.Seq.{drop-cons, length-take-le, get_or-take, get_or-drop, take-take, drop-drop}
 use borrow.Author.Tests.{eq-eqb, ne_eqb, lt-ltb}
 use Rattle.wire.proofs.Tests.{by_test, and_split}
 use Rattle.fm3130.specs.Chip.{memory_size}
@@ -34,6 +34,16 @@ part_length f p n h = length-take-le n (drop p f) (simp length-drop (omega arith
 -- a section's bytes, and a part of them
 abbrev pub section : List ℕ → ℕ → ℕ → List ℕ
 section f from count = take count (drop from f)
+
+part_of_part : (i n count : ℕ) (xs : List ℕ) → i + n ≤ count → take n (drop i (take count xs)) ≡ take n (drop i xs)
+part_of_part zero n count xs h = take-take n count xs (omega arith)
+part_of_part (suc i) n zero xs h = absurd (omega arith)
+part_of_part (suc i) n (suc count) [] h = refl
+part_of_part (suc i) n (suc count) (x ∷ xs) h = part_of_part i n count xs (omega arith)
+
+pub section_part : (f : List ℕ) (from count i n : ℕ) → i + n ≤ count
+    → take n (drop i (section f from count)) ≡ section f (from + i) n
+section_part f from count i n h = part_of_part i n count (drop from f) h ∙ ap (λ (l : List ℕ). take n l) (drop-drop i from f)
 
 -- the byte of a section that was read through a reader, and the place after
 module _ (f : List ℕ) (from count i q : ℕ) (t : Taken) (e : t ≡ taken_at f q) (p : q ≡ from + i) (h : i < count) where
@@ -160,6 +170,12 @@ judged_beside s m es a f at x y n v i' m' a' l r q e =
 pub judged_as : (x y : ℕ) → x ≡ y → (s : State) (m es bs : List ℕ) (n : ℕ) (v : Verdict) (i' m' : List ℕ)
     → Judged s m (take x es) (take x bs) n v i' m' → Judged s m (take y es) (take y bs) n v i' m'
 judged_as x y e s m es bs n v i' m' j = rw e at j
+
+-- the same of a part of the file, which is a part of the section
+pub judged_in : (f : List ℕ) (from count i n : ℕ) → i + n ≤ count → (s : State) (m bs : List ℕ) (k : ℕ) (v : Verdict)
+    (i' m' : List ℕ) → Judged s m (section f (from + i) n) bs k v i' m'
+    → Judged s m (take n (drop i (section f from count))) bs k v i' m'
+judged_in f from count i n h s m bs k v i' m' j = rw (section_part f from count i n h) j
 
 -- room for a stretch, in an array of zeros
 pub room_length : (n : ℕ) → n ≤ longest → length (take n (replicate {A = ℕ} longest 0)) ≡ n

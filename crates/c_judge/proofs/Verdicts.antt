@@ -1,26 +1,27 @@
 -- SPDX-License-Identifier: Apache-2.0
 -- No second verdict has the figures of a verdict. Then the ways through the judge's tests, and that the replay of what
 -- is found in a sound file is the verdict on it.
-use Prim.Native.Nat.{ℕ, ◌≤◌, ◌<◌}
+use Prim.Native.Nat.{ℕ, ◌+◌, ◌≤◌, ◌<◌}
 use mathlib.Core.Path.{◌≡◌, refl, sym, ap, ◌∙◌}
 use mathlib.Core.Bool.{true, cond, false≢true}
 use mathlib.Core.List.{List}
 use native.Mathlib.Omega.{arith}
 use lib.Dec.{eqb}
-use lib.ListN.{length}
+use lib.ListN.{length, take, drop}
 use borrow.Author.Tests.{le-leb, lt-leb, eqb-true}
 use Rattle.std.specs.Prelude.{Option, None, is_some}
 use Rattle.wire.proofs.Tests.{by_test}
 use Rattle.fm3130.specs.Chip.{memory_size}
-use Rattle.fm3130_image.specs.Image.{decode_of}
-use Rattle.fm3130_list.specs.Run.{all_known}
+use Rattle.fm3130_image.specs.Image.{candidate, decode_of}
+use Rattle.fm3130_list.specs.Run.{run_of, all_known}
 use Rattle.fm3130_image.specs.Code.Accepting.{is_image}
 use Rattle.fm3130_image.proofs.Accepts.{image_not_read}
-use Rattle.capture_table.specs.Table.{is_accepted, image_kind, memory_kind, events_kind, answers_kind}
+use Rattle.capture_table.specs.Table.{body_of, is_accepted, image_kind, memory_kind, events_kind, answers_kind}
 use Rattle.capture_table.specs.Sections.{first_faulty, entry_of, section_of}
+use Rattle.capture_table.specs.declared.Entry.{Entry}
 use Rattle.capture_table.proofs.Sound.{sound_of}
 use Rattle.capture_table.proofs.Finding.{even, accepted, inside}
-use Rattle.c_judge.specs.Verdict.{limit, figures_of, verdict_on, verdict_of}
+use Rattle.c_judge.specs.Verdict.{limit, figures_of, compared, verdict_on, verdict_of}
 use Rattle.c_judge.specs.Verdict.{JudgeSettled, JudgeForCSettled}
 use Rattle.c_judge.proofs.Replays.{part_length}
 use Rattle.c_judge.specs.declared.Figures.{Figures}
@@ -95,3 +96,28 @@ module _ (f : List ℕ) (z : first_faulty f ≡ None) where
       let a = inside f z answers_kind (omega arith) (omega arith) _ refl in
       part_length f (entry_of f answers_kind).from (entry_of f answers_kind).size a ∙ sym (even f (sound_of f z))
       ∙ sym (part_length f (entry_of f events_kind).from (entry_of f events_kind).size e)
+
+  -- so the answers are all there where as many are looked for as there are events
+  pub answers_inside : (ev an : Entry) → ev ≡ entry_of f events_kind → an ≡ entry_of f answers_kind → an.from + ev.size ≤ length f
+  answers_inside ev an pe pa =
+      let h = inside f z answers_kind (omega arith) (omega arith) an pa in
+      let n : ev.size ≡ an.size = ap (λ (x : Entry). x.size) pe ∙ even f (sound_of f z) ∙ ap (λ (x : Entry). x.size) (sym pa) in
+      omega arith
+
+  -- as many events as answers, from the place of the events on, are those of the file
+  module _ (ev : Entry) (pe : ev ≡ entry_of f events_kind) where
+    sizes : length (section_of f answers_kind) ≡ ev.size
+    sizes =
+        counts ∙ ap (λ (x : Entry). length (body_of f x)) (sym pe)
+        ∙ part_length f ev.from ev.size (inside f z events_kind (omega arith) (omega arith) ev pe)
+
+    pub events_inside : ev.from + length (section_of f answers_kind) ≤ length f
+    events_inside = rw sizes (inside f z events_kind (omega arith) (omega arith) ev pe)
+
+    pub events_section : take (length (section_of f answers_kind)) (drop ev.from f) ≡ section_of f events_kind
+    events_section = rw sizes (ap (body_of f) pe)
+
+    -- the replay of what was found is the verdict
+    pub replay_done : (i m bs : List ℕ) → i ≡ section_of f image_kind → m ≡ section_of f memory_kind → bs ≡ section_of f answers_kind
+        → compared 0 (run_of (candidate i) m (take (length bs) (drop ev.from f))).answers bs ≡ verdict_on f None
+    replay_done i m bs pi pm pb = rw (pi, pm, pb, events_section)

@@ -9,7 +9,7 @@ use crate::{Figures, Judgement, Verdict};
 use bus_image::bytes::copy;
 use capture_table::Kind;
 use capture_table::faults::first_faulty;
-use capture_table::sections::section;
+use capture_table::sections::{entry_of, section};
 use fm3130_image::{LENGTH, MEMORY};
 
 // The bytes of the longest capture: 60 KiB.
@@ -40,7 +40,8 @@ fn judge_sound(file: &[u8]) -> Verdict
     replay(
         &mut image,
         &mut memory,
-        section(file, Kind::Events),
+        file,
+        entry_of(file, Kind::Events as u32).from as usize,
         section(file, Kind::Answers),
     )
 }

@@ -15,14 +15,14 @@ use capture_reader::taken_through;
 // The events of the longest stretch: so many answers are kept at a time.
 const LONGEST: usize = 256;
 
-// Bytes of a section from a place on, one by one through a reader, as many as there is room for.
-fn fetch(section: &[u8], place: usize, bytes: &mut [u8])
-    requires { place + length bytes.old ≤ length section.now }
-    ensures { bytes.new ≡ take (length bytes.old) (drop place section.now) }
+// Bytes of the file from a place on, one by one through a reader, as many as there is room for.
+fn fetch(file: &[u8], place: usize, bytes: &mut [u8])
+    requires { place + length bytes.old ≤ length file.now }
+    ensures { bytes.new ≡ take (length bytes.old) (drop place file.now) }
 {
     let mut at = place;
     for byte in bytes.iter_mut() {
-        let taken = taken_through(section, at);
+        let taken = taken_through(file, at);
         *byte = taken.byte;
         at = taken.place;
     }
@@ -46,26 +46,27 @@ fn beside(recorded: &[u8], right: &[u8], from: usize) -> Verdict
     Verdict::Agree(from + recorded.len())
 }
 
-// As many events from a place on as there is room for, beside their answers.
+// As many events from a place of the file on as there is room for, beside their answers, before which there are so many.
 fn stretch(
     image: &mut [u8],
     memory: &mut [u8],
-    events: &[u8],
+    file: &[u8],
+    events: usize,
     answers: &[u8],
     at: usize,
     asked: &mut [u8],
     given: &mut [u8],
 ) -> Verdict
     requires accepted { Accepted image.old memory.old }
-    requires asked_in_bounds { (at + length asked.old ≤ length events.now) × (at + length asked.old ≤ length answers.now)
+    requires asked_in_bounds { (events + length asked.old ≤ length file.now) × (at + length asked.old ≤ length answers.now)
         × (length given.old ≡ length asked.old) × (at + length asked.old < 2 ^ 64) }
-    requires events_known { all_known (take (length asked.old) (drop at events.now)) ≡ true }
+    requires events_known { all_known (take (length asked.old) (drop events file.now)) ≡ true }
     ensures { Judged (candidate image.old) memory.old
-        (take (length asked.old) (drop at events.now)) (take (length asked.old) (drop at answers.now)) at
+        (take (length asked.old) (drop events file.now)) (take (length asked.old) (drop at answers.now)) at
         result image.new memory.new }
 {
     let to = at + asked.len();
-    fetch(events, at, asked);
+    fetch(file, events, asked);
     run_events(image, memory, asked, given);
     beside(&answers[at..to], given, at)
 }
@@ -74,17 +75,18 @@ fn stretch(
 fn with_room(
     image: &mut [u8],
     memory: &mut [u8],
-    events: &[u8],
+    file: &[u8],
+    events: usize,
     answers: &[u8],
     at: usize,
     long: usize,
 ) -> Verdict
     requires accepted { Accepted image.old memory.old }
-    requires long_in_bounds { (at + long ≤ length events.now) × (at + long ≤ length answers.now) × (long ≤ longest)
+    requires long_in_bounds { (events + long ≤ length file.now) × (at + long ≤ length answers.now) × (long ≤ longest)
         × (at + long < 2 ^ 64) }
-    requires events_known { all_known (take long (drop at events.now)) ≡ true }
+    requires events_known { all_known (take long (drop events file.now)) ≡ true }
     ensures { Judged (candidate image.old) memory.old
-        (take long (drop at events.now)) (take long (drop at answers.now)) at
+        (take long (drop events file.now)) (take long (drop at answers.now)) at
         result image.new memory.new }
 {
     let mut asked = [0u8; LONGEST];
@@ -92,6 +94,7 @@ fn with_room(
     stretch(
         image,
         memory,
+        file,
         events,
         answers,
         at,
@@ -109,19 +112,26 @@ impl Verdict {
     }
 }
 
-// Events beside as many answers: the first answer that is not the device's. The events change the image and the memory that
-// are handed in.
-pub(crate) fn replay(image: &mut [u8], memory: &mut [u8], events: &[u8], answers: &[u8]) -> Verdict
+// Answers beside as many events from a place of the file on: the first answer that is not the device's. The events change the
+// image and the memory that are handed in.
+pub(crate) fn replay(
+    image: &mut [u8],
+    memory: &mut [u8],
+    file: &[u8],
+    events: usize,
+    answers: &[u8],
+) -> Verdict
     requires accepted { Accepted image.old memory.old }
-    requires same_count { length answers.now ≡ length events.now }
-    requires events_known { all_known events.now ≡ true }
-    ensures { result ≡ compared 0 (run_of (candidate image.old) memory.old events.now).answers answers.now }
+    requires count_in_bounds { events + length answers.now ≤ length file.now }
+    requires events_known { all_known (take (length answers.now) (drop events file.now)) ≡ true }
+    ensures { result ≡ compared 0
+        (run_of (candidate image.old) memory.old (take (length answers.now) (drop events file.now))).answers answers.now }
 {
     // Stays (plain): two lists go on by stretches together, and how many came before is a part of the verdict.
     let mut i = 0;
-    while i < events.len() {
-        let long = LONGEST.min(events.len() - i);
-        let told = with_room(image, memory, events, answers, i, long);
+    while i < answers.len() {
+        let long = LONGEST.min(answers.len() - i);
+        let told = with_room(image, memory, file, events + i, answers, i, long);
         if !told.agrees() {
             return told;
         }

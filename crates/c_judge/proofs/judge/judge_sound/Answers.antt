@@ -6,7 +6,7 @@ use lib.ListN.{length, length-replicate}
 use Rattle.fm3130_list.specs.Run.{all_known}
 use Rattle.fm3130_image.specs.Code.Accepting.{is_image}
 use Rattle.fm3130_image.proofs.Accepts.{image_long}
-use Rattle.c_judge.proofs.Verdicts.{image_good, memory_length, events_known, counts}
+use Rattle.c_judge.proofs.Verdicts.{image_good, memory_length, events_known, events_inside, events_section, replay_done}
 use Rattle.c_judge.proofs.judge.judge_sound.Goals as goal
 
 pub copy-requires : goal.copy-requires
@@ -24,11 +24,16 @@ replay-requires c =
     let f = c.args.file.now in
     let z = c.requires in
     let i = c.copy.ensures ∙ c.section.ensures in
-    let m = c.copy-2.ensures ∙ c.section-2.ensures in record {
+    let m = c.copy-2.ensures ∙ c.section-2.ensures in
+    let ev = c.entry_of.ensures in
+    let a = c.section-3.ensures in record {
       accepted = record { image = ap is_image i ∙ image_good f z; memory = ap length m ∙ memory_length f z };
-      same_count = ap length c.section-4.ensures ∙ counts f z ∙ sym (ap length c.section-3.ensures);
-      events_known = ap all_known c.section-3.ensures ∙ events_known f z;
+      count_in_bounds = rw a (events_inside f z _ ev);
+      events_known = rw a (ap all_known (events_section f z _ ev) ∙ events_known f z);
     }
 
 pub returns : goal.returns
-returns c = rw (c.replay.ensures, c.copy.ensures, c.section.ensures, c.copy-2.ensures, c.section-2.ensures, c.section-3.ensures, c.section-4.ensures)
+returns c =
+    let i = c.copy.ensures ∙ c.section.ensures in
+    let m = c.copy-2.ensures ∙ c.section-2.ensures in
+    c.replay.ensures ∙ replay_done c.args.file.now c.requires _ c.entry_of.ensures _ _ _ i m c.section-3.ensures

@@ -14,7 +14,7 @@ loop-byte-init c = (refl, omega arith, refl)
 pub loop-byte-preserved : goal.loop-byte-preserved
 loop-byte-preserved c =
     let l = c.loop-byte in
-    let f = c.args.section.now in
+    let f = c.args.file.now in
     let p = c.args.place in
     let n = length c.args.bytes.now in
     let t = c.taken_through-taken.ensures in
@@ -28,5 +28,5 @@ loop-byte-preserved c =
 pub returns : goal.returns
 returns c =
     let l = c.loop-byte in
-    let long = part_length c.args.section.now c.args.place (length c.args.bytes.now) c.requires in
+    let long = part_length c.args.file.now c.args.place (length c.args.bytes.now) c.requires in
     copy_done _ _ l.byte-index (omega arith) (omega arith) l.invariant.2

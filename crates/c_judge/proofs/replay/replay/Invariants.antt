@@ -6,13 +6,14 @@ use mathlib.Core.Path.{◌≡◌}
 use lib.ListN.{length}
 use Rattle.fm3130_image.specs.Image.{candidate}
 use Rattle.place_clock.specs.Code.Clocking.{Accepted}
-use Rattle.c_judge.proofs.Replays.{left}
+use Rattle.c_judge.proofs.Replays.{section, left}
 use Rattle.c_judge.proofs.replay.replay.Given as goal
 
 abbrev pub invariant-loop-i : goal.invariant-loop-i
 invariant-loop-i l =
-    (l.i ≤ length l.events) × Accepted l.image l.memory
-    × (left (candidate l.image) l.memory l.events l.answers l.i ≡ left (candidate l.initial.image) l.initial.memory l.events l.answers 0)
+    (l.i ≤ length l.answers) × Accepted l.image l.memory
+    × (left (candidate l.image) l.memory (section l.file l.events (length l.answers)) l.answers l.i
+    ≡ left (candidate l.initial.image) l.initial.memory (section l.file l.events (length l.answers)) l.answers 0)
 
 abbrev pub decreases-loop-i : goal.decreases-loop-i
-decreases-loop-i l = length l.events - l.i
+decreases-loop-i l = length l.answers - l.i

@@ -19,7 +19,7 @@ stretch-requires c =
     let s = c in
     let p = s.requires.long_in_bounds in
     let z = room_length s.args.long p.2 in
-    record { accepted = s.requires.accepted; asked_in_bounds = (omega (arith, z, p.0), omega (arith, z, p.1), refl, omega (arith, z, p.3)); events_known = ap (λ (k : ℕ). all_known (take k (drop s.args.at s.args.events.now))) z ∙ s.requires.events_known }
+    record { accepted = s.requires.accepted; asked_in_bounds = (omega (arith, z, p.0), omega (arith, z, p.1), refl, omega (arith, z, p.3)); events_known = ap (λ (k : ℕ). all_known (take k (drop s.args.events s.args.file.now))) z ∙ s.requires.events_known }
 
 pub returns : goal.returns
 returns c =
