@@ -9,7 +9,7 @@ use native.Mathlib.Omega.{arith}
 use lib.Dec.{eqb}
 use lib.ListN.{length, take, drop}
 use borrow.Author.Tests.{le-leb, lt-leb, eqb-true}
-use Rattle.std.specs.Prelude.{Option, None, is_some}
+use Rattle.std.specs.Prelude.{Option, Some, None, is_some}
 use Rattle.wire.proofs.Tests.{by_test}
 use Rattle.fm3130.specs.Chip.{memory_size}
 use Rattle.fm3130_image.specs.Image.{candidate, decode_of}
@@ -21,7 +21,7 @@ use Rattle.capture_table.specs.Sections.{first_faulty, entry_of, section_of}
 use Rattle.capture_table.specs.declared.Entry.{Entry}
 use Rattle.capture_table.proofs.Sound.{sound_of}
 use Rattle.capture_table.proofs.Finding.{even, accepted, inside}
-use Rattle.c_judge.specs.Verdict.{limit, figures_of, compared, verdict_on, verdict_of}
+use Rattle.c_judge.specs.Verdict.{limit, figures_of, compared, right_answers, verdict_on, verdict_of}
 use Rattle.c_judge.specs.Verdict.{JudgeSettled, JudgeForCSettled}
 use Rattle.c_judge.proofs.Replays.{part_length}
 use Rattle.c_judge.specs.declared.Figures.{Figures}
@@ -65,6 +65,12 @@ module _ (f : List ℕ) where
     unfolding verdict_of
     verdict_by o e = rw (le-leb (length f) limit l, e)
 
+    pub verdict_faulty : (n : ℕ) → first_faulty f ≡ Some n → Faulty n ≡ verdict_of f
+    verdict_faulty n h = verdict_by (Some n) (sym h)
+
+    verdict_replayed : first_faulty f ≡ None → compared 0 (right_answers f) (section_of f answers_kind) ≡ verdict_of f
+    verdict_replayed h = verdict_by None (sym h)
+
 -- what the sections of a sound file hold
 module _ (f : List ℕ) (z : first_faulty f ≡ None) where
   image_state : decode_of (section_of f image_kind) ≡ None → ⊥
@@ -85,9 +91,11 @@ module _ (f : List ℕ) (z : first_faulty f ≡ None) where
       accepted f z memory_kind (omega arith) (omega arith) in
       eqb-true _ _ t
 
-  pub events_known : all_known (section_of f events_kind) ≡ true
+  pub events_known : (e : Entry) → e ≡ entry_of f events_kind → all_known (body_of f e) ≡ true
   unfolding is_accepted
-  events_known = accepted f z events_kind (omega arith) (omega arith)
+  events_known e p =
+      let t : all_known (section_of f events_kind) ≡ true = accepted f z events_kind (omega arith) (omega arith) in
+      rw p t
 
   -- the answers are as many as the events
   pub counts : length (section_of f answers_kind) ≡ length (section_of f events_kind)
@@ -118,6 +126,15 @@ module _ (f : List ℕ) (z : first_faulty f ≡ None) where
     events_section = rw sizes (ap (body_of f) pe)
 
     -- the replay of what was found is the verdict
-    pub replay_done : (i m bs : List ℕ) → i ≡ section_of f image_kind → m ≡ section_of f memory_kind → bs ≡ section_of f answers_kind
+    pub replay_found : (i m bs : List ℕ) → i ≡ section_of f image_kind → m ≡ section_of f memory_kind → bs ≡ section_of f answers_kind
         → compared 0 (run_of (candidate i) m (take (length bs) (drop ev.from f))).answers bs ≡ verdict_on f None
-    replay_done i m bs pi pm pb = rw (pi, pm, pb, events_section)
+    replay_found i m bs pi pm pb = rw (pi, pm, pb, events_section)
+
+  -- the same by both entries, of a file that is not too long
+  pub replay_done : (ev an : Entry) → ev ≡ entry_of f events_kind → an ≡ entry_of f answers_kind → length f ≤ limit
+      → (i m : List ℕ) → i ≡ section_of f image_kind → m ≡ section_of f memory_kind
+      → compared 0 (run_of (candidate i) m (body_of f ev)).answers (take ev.size (drop an.from f)) ≡ verdict_of f
+  replay_done ev an pe pa l i m pi pm =
+      let n : ev.size ≡ an.size = ap (λ (x : Entry). x.size) pe ∙ even f (sound_of f z) ∙ ap (λ (x : Entry). x.size) (sym pa) in
+      let a : take ev.size (drop an.from f) ≡ section_of f answers_kind = rw n (ap (body_of f) pa) in
+      rw (a, pm, pi, ap (body_of f) pe) (verdict_replayed f l z)

@@ -1,12 +1,12 @@
 -- SPDX-License-Identifier: Apache-2.0
 -- The sections of a sound file, each accepted, and their replay.
 use Prim.Native.Nat.{ℕ}
-use mathlib.Core.Path.{sym, ap, ◌∙◌}
+use mathlib.Core.Path.{refl, sym, ap, ◌∙◌}
 use lib.ListN.{length, length-replicate}
 use Rattle.fm3130_list.specs.Run.{all_known}
 use Rattle.fm3130_image.specs.Code.Accepting.{is_image}
 use Rattle.fm3130_image.proofs.Accepts.{image_long}
-use Rattle.c_judge.proofs.Verdicts.{image_good, memory_length, events_known, events_inside, events_section, replay_done}
+use Rattle.c_judge.proofs.Verdicts.{image_good, memory_length, events_known, events_inside, events_section, replay_found}
 use Rattle.c_judge.proofs.judge.judge_sound.Goals as goal
 
 pub copy-requires : goal.copy-requires
@@ -29,11 +29,11 @@ replay-requires c =
     let a = c.section-3.ensures in record {
       accepted = record { image = ap is_image i ∙ image_good f z; memory = ap length m ∙ memory_length f z };
       count_in_bounds = rw a (events_inside f z _ ev);
-      events_known = rw a (ap all_known (events_section f z _ ev) ∙ events_known f z);
+      events_known = rw a (ap all_known (events_section f z _ ev) ∙ events_known f z _ refl);
     }
 
 pub returns : goal.returns
 returns c =
     let i = c.copy.ensures ∙ c.section.ensures in
     let m = c.copy-2.ensures ∙ c.section-2.ensures in
-    c.replay.ensures ∙ replay_done c.args.file.now c.requires _ c.entry_of.ensures _ _ _ i m c.section-3.ensures
+    c.replay.ensures ∙ replay_found c.args.file.now c.requires _ c.entry_of.ensures _ _ _ i m c.section-3.ensures
