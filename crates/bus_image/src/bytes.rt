@@ -10,12 +10,15 @@ pub fn pair(high: u8, low: u8) -> u16
     u16::from_be_bytes([high, low])
 }
 
-// Copies all bytes of one slice over another that is as long.
+// Copies all bytes of one slice over another that is as long. Byte by byte, since `copy_from_slice` is a memmove, for which an array on the stack
+// is first built whole, and which a small processor's firmware would have to bring.
 pub fn copy(from: &[u8], to: &mut [u8])
     requires { length to.old ≡ length from.now }
     ensures { to.new ≡ from.now }
 {
-    to.copy_from_slice(from);
+    for i in 0..from.len() {
+        to[i] = from[i];
+    }
 }
 
 // Sets every byte of a slice to 0.
