@@ -13,6 +13,7 @@ use crate::places::{
     CONTROL_AT, COUNTING_AT, COUNTS_AT, FLAGS_AT, SN0_AT, SN1_AT, SN2_AT, SN3_AT, SN4_AT, SN5_AT,
     SN6_AT, SN7_AT, SNAPSHOT_AT, WATCHDOG_AT,
 };
+use bus_image::bytes::copy;
 use bus_image::layout::{bus_at, write_bus};
 use bus_image::places::{COMPANION_ADDRESS_AT, LAYOUT_AT, MARK_HIGH_AT, MARK_LOW_AT};
 use fm31::State;
@@ -80,7 +81,7 @@ pub fn write_image(state: State, image: &mut [u8])
     requires { length image.old ≡ image_size }
     ensures { image.new ≡ image_of state }
 {
-    image.copy_from_slice(&image_of(state));
+    copy(&image_of(state), image);
 }
 
 // Four bytes from a place on, as the two counters.

@@ -6,6 +6,7 @@
 ghost use Rattle.std.specs.Prelude.{◌≡◌, ◌<◌, length};
 ghost use Rattle.lamps_bytes.specs.Kept.{lamp_in, lamps_in, kept_of, bytes_of, lamp_fits, lamps_fit, is_kept};
 
+use bus_image::bytes::copy;
 use lamps::{Follower, Proving};
 use lamps_eight::{Lamp, Lamps};
 
@@ -120,5 +121,5 @@ pub fn write(proving: Proving, kept: &mut [u8])
     requires { length kept.old ≡ 20 }
     ensures { kept.new ≡ bytes_of proving }
 {
-    kept.copy_from_slice(&bytes_of(proving));
+    copy(&bytes_of(proving), kept);
 }
