@@ -56,11 +56,12 @@ pub fn read(kept: &[u8]) -> Proving
     Proving { follower, lamps }
 }
 
-// A transaction gave nothing, 1, or something else; at most three ticks are left.
+// A transaction gave nothing, 1, or something else; at most three ticks are left. With `&`, here and in the two below: all bytes are
+// tested, at once.
 fn lamp_fits(lamp: Lamp) -> bool
     ensures { result ≡ lamp_fits lamp }
 {
-    lamp.held <= 2 && lamp.left <= 3
+    (lamp.held <= 2) & (lamp.left <= 3)
 }
 
 // All eight.
@@ -68,13 +69,13 @@ fn lamps_fit(lamps: Lamps) -> bool
     ensures { result ≡ lamps_fit lamps }
 {
     lamp_fits(lamps.zero)
-        && lamp_fits(lamps.one)
-        && lamp_fits(lamps.two)
-        && lamp_fits(lamps.three)
-        && lamp_fits(lamps.four)
-        && lamp_fits(lamps.five)
-        && lamp_fits(lamps.six)
-        && lamp_fits(lamps.seven)
+        & lamp_fits(lamps.one)
+        & lamp_fits(lamps.two)
+        & lamp_fits(lamps.three)
+        & lamp_fits(lamps.four)
+        & lamp_fits(lamps.five)
+        & lamp_fits(lamps.six)
+        & lamp_fits(lamps.seven)
 }
 
 // Whether the bytes hold a record.
@@ -82,7 +83,7 @@ fn lamps_fit(lamps: Lamps) -> bool
 pub fn is_kept(kept: &[u8]) -> bool
     ensures { result ≡ is_kept kept.now }
 {
-    kept.len() == RECORD && kept[0] <= 1 && kept[1] <= 31 && lamps_fit(lamps_in(kept))
+    kept.len() == RECORD && (kept[0] <= 1) & (kept[1] <= 31) & lamps_fit(lamps_in(kept))
 }
 
 // The bytes of a record.
