@@ -10,8 +10,9 @@ pub fn pair(high: u8, low: u8) -> u16
     u16::from_be_bytes([high, low])
 }
 
-// Copies all bytes of one slice over another that is as long. Byte by byte, since `copy_from_slice` is a memmove, for which an array on the stack
-// is first built whole, and which a small processor's firmware would have to bring.
+// Copies all bytes of one slice over another that is as long.
+// Stays (speed): byte by byte. `copy_from_slice` is a memmove: an array just made is first laid on the stack for it, and a small processor's
+// firmware would have to bring it.
 pub fn copy(from: &[u8], to: &mut [u8])
     requires { length to.old ≡ length from.now }
     ensures { to.new ≡ from.now }

@@ -56,8 +56,8 @@ pub fn read(kept: &[u8]) -> Proving
     Proving { follower, lamps }
 }
 
-// A transaction gave nothing, 1, or something else; at most three ticks are left. With `&`, here and in the two below: all bytes are
-// tested, at once.
+// A transaction gave nothing, 1, or something else; at most three ticks are left.
+// Stays (speed): `&`, here and in the two below, has all bytes tested at once, `&&` one by one.
 fn lamp_fits(lamp: Lamp) -> bool
     ensures { result ≡ lamp_fits lamp }
 {
