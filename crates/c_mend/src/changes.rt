@@ -4,6 +4,8 @@ ghost use Rattle.std.specs.Prelude.{◌≡◌, ◌+◌, ◌≤◌, ◌==◌, not
 ghost use Rattle.c_mend.specs.Changes.{change_of, changes_from};
 ghost use Rattle.c_mend.specs.Code.Changes.{WrittenAt};
 
+use bus_image::bytes::copy;
+
 // Writes the three bytes of a register at a place, where its byte changed; returns the place after them.
 // Stays (C): fm3130_mend is lent one buffer for a list whose length is known only at its end.
 fn note(changes: &mut [u8], at: usize, number: u8, old: u8, new: u8) -> usize
@@ -14,7 +16,7 @@ fn note(changes: &mut [u8], at: usize, number: u8, old: u8, new: u8) -> usize
         return at;
     }
     let end = at + 3;
-    changes[at..end].copy_from_slice(&[number, old, new]);
+    copy(&[number, old, new], &mut changes[at..end]);
     end
 }
 

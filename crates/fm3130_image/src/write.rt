@@ -12,6 +12,7 @@ use crate::places::{
     CORE_SECONDS_AT, SECONDS_AT, SETUP_AT, TRIM_AT,
 };
 use bus::Bus;
+use bus_image::bytes::copy;
 use bus_image::layout::write_bus;
 use bus_image::places::{COMPANION_ADDRESS_AT, LAYOUT_AT, MARK_HIGH_AT, MARK_LOW_AT};
 use calendar::Calendar;
@@ -95,5 +96,5 @@ pub fn write_image(state: State, image: &mut [u8])
     requires { length image.old ≡ image_size }
     ensures { image.new ≡ image_of state }
 {
-    image.copy_from_slice(&image_of(state));
+    copy(&image_of(state), image);
 }

@@ -5,7 +5,7 @@ ghost use Rattle.std.proofs.lemmas.List.Edits.{sets};
 ghost use Rattle.fm31_counters.specs.Registers.{register_bytes, registers_of};
 ghost use Rattle.fm31_image.specs.Image.{image_size, counts_bytes, image_of};
 ghost use Rattle.fm31_image.specs.Image.{counts_at, counters_at, candidate};
-ghost use Rattle.fm31_image.specs.Code.Image.{serial_at};
+ghost use Rattle.fm31_image.specs.Code.Image.{serial_at, with_counters};
 ghost use Rattle.fm31_image.specs.Reading.{DecodeSettled};
 
 use crate::accept::is_image;
@@ -13,6 +13,7 @@ use crate::places::{
     CONTROL_AT, COUNTING_AT, COUNTS_AT, FLAGS_AT, SN0_AT, SN1_AT, SN2_AT, SN3_AT, SN4_AT, SN5_AT,
     SN6_AT, SN7_AT, SNAPSHOT_AT, WATCHDOG_AT,
 };
+use bus_image::bytes::copy;
 use bus_image::layout::{bus_at, write_bus};
 use bus_image::places::{COMPANION_ADDRESS_AT, LAYOUT_AT, MARK_HIGH_AT, MARK_LOW_AT};
 use fm31::State;
@@ -21,28 +22,28 @@ use fm31_counters::{Count, Counters, Counts, Registers, Serial};
 // The bytes of an image.
 pub const LENGTH: usize = 64;
 
-// An image with both counters' four bytes from a place on.
-fn with_counts(mut image: [u8; LENGTH], at: usize, counts: Counts) -> [u8; LENGTH]
-    requires { at ≤ 16 }
-    ensures { result ≡ sets image at (counts_bytes counts) }
+// Writes both counters' four bytes over an image, from a place on.
+fn write_counts(counts: Counts, image: &mut [u8], at: usize)
+    requires { (length image.old ≡ image_size) × (at ≤ 16) }
+    ensures { image.new ≡ sets image.old at (counts_bytes counts) }
 {
     image[at] = counts.one.low;
     image[at + 1] = counts.one.high;
     image[at + 2] = counts.two.low;
     image[at + 3] = counts.two.high;
-    image
 }
 
-// An image with registers as its first 16 bytes.
-fn with_registers(mut image: [u8; LENGTH], registers: Registers) -> [u8; LENGTH]
-    ensures { result ≡ sets image 0 (register_bytes registers) }
+// Writes registers over an image's first 16 bytes.
+fn write_registers(registers: Registers, image: &mut [u8])
+    requires { length image.old ≡ image_size }
+    ensures { image.new ≡ sets image.old 0 (register_bytes registers) }
 {
     let serial = registers.serial;
     image[FLAGS_AT] = registers.flags;
     image[WATCHDOG_AT] = registers.watchdog;
     image[CONTROL_AT] = registers.control;
     image[COUNTING_AT] = registers.counting;
-    image = with_counts(image, COUNTS_AT, registers.counts);
+    write_counts(registers.counts, image, COUNTS_AT);
     image[SN0_AT] = serial.sn0;
     image[SN1_AT] = serial.sn1;
     image[SN2_AT] = serial.sn2;
@@ -51,7 +52,21 @@ fn with_registers(mut image: [u8; LENGTH], registers: Registers) -> [u8; LENGTH]
     image[SN5_AT] = serial.sn5;
     image[SN6_AT] = serial.sn6;
     image[SN7_AT] = serial.sn7;
-    image
+}
+
+// Writes a companion over an image: bytes 0 to 19 and 22. The other bytes stay.
+pub fn write_counters(counters: Counters, image: &mut [u8])
+    requires { length image.old ≡ image_size }
+    ensures { image.new ≡ with_counters image.old counters }
+{
+    let Counters {
+        registers,
+        snapshot,
+        address,
+    } = counters;
+    write_registers(registers, image);
+    write_counts(snapshot, image, SNAPSHOT_AT);
+    image[COMPANION_ADDRESS_AT] = address;
 }
 
 // The image that a state writes: the registers, the snapshot, bytes 22 to 29, zeros, and the mark.
@@ -59,18 +74,11 @@ fn with_registers(mut image: [u8; LENGTH], registers: Registers) -> [u8; LENGTH]
 pub fn image_of(state: State) -> [u8; LENGTH]
     ensures { result ≡ image_of state }
 {
-    let Counters {
-        registers,
-        snapshot,
-        address,
-    } = state.counters;
     let mut image = [0; LENGTH];
     image[MARK_HIGH_AT] = 0x31;
     image[MARK_LOW_AT] = 0xCC;
     image[LAYOUT_AT] = 0x01;
-    image = with_registers(image, registers);
-    image = with_counts(image, SNAPSHOT_AT, snapshot);
-    image[COMPANION_ADDRESS_AT] = address;
+    write_counters(state.counters, &mut image);
     write_bus(&mut image, state.bus);
     image
 }
@@ -80,7 +88,7 @@ pub fn write_image(state: State, image: &mut [u8])
     requires { length image.old ≡ image_size }
     ensures { image.new ≡ image_of state }
 {
-    image.copy_from_slice(&image_of(state));
+    copy(&image_of(state), image);
 }
 
 // Four bytes from a place on, as the two counters.

@@ -30,6 +30,7 @@ use Rattle.bus_image.specs.Layout.{bus_bytes, bus_at}
 use Rattle.bus_image.specs.Places.{ADDRESS_HIGH_AT}
 use Rattle.std.proofs.lemmas.List.Edits.{sets}
 use Rattle.fm31_image.specs.Image.{image_size, image_of, counters_at, candidate}
+use Rattle.fm31_image.specs.Code.Image.{with_counters}
 use Rattle.fm31_image.proofs.Images.{candidate_of, image_length}
 use Rattle.fm31_image.proofs.Accepts.{image_well, image_written, image_long}
 use Rattle.fm31_place.specs.Lying.{Accepted, Served, Answered}
@@ -39,6 +40,12 @@ pub bus_written : (s : State) (i i' : List ℕ) (u : Bus) → i ≡ image_of s �
     → i' ≡ image_of (record { bus = u; counters = s.counters })
 unfolding image_of
 bus_written s i i' u e w = w ∙ rw e refl
+
+-- a companion that is written into an image
+pub counters_written : (s : State) (i i' : List ℕ) (c : Counters) → i ≡ image_of s → i' ≡ with_counters i c
+    → i' ≡ image_of (record { bus = s.bus; counters = c })
+unfolding image_of
+counters_written s i i' c e w = w ∙ rw e refl
 
 module _ (size select : ℕ) (i m : List ℕ) (c : Accepted size select i m) where
   -- what is asked of the state holds of the one that lies in the image

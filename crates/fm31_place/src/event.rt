@@ -22,7 +22,7 @@ pub fn happen(image: &mut [u8], memory: &mut [u8], size: u16, select: u8, event:
 {
     let bus = bus_at(image);
     let guard = image[CONTROL_AT] / WP0 % 4;
-    let reply = serve_at(image, bus, deed_of(bus, event));
+    let reply = serve_at(image, deed_of(bus, event));
     let went = bus.happen(memory, size, select, guard, reply, event);
     write_bus(image, went.bus);
     answer_byte(went.line)

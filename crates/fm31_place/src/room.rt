@@ -9,31 +9,26 @@ ghost use Rattle.fm31_image.specs.Image.{image_size, image_of};
 ghost use Rattle.bus_image.specs.Places.{COMPANION_ADDRESS_AT};
 ghost use Rattle.fm31_place.specs.Lying.{Served};
 
-use bus::{Bus, Reply};
+use bus::Reply;
 use bus_deeds::Deed;
 use bus_deeds::serve::serve;
-use fm31::State;
-use fm31_image::image::{counters_at, write_image};
+use fm31_image::image::{counters_at, write_counters};
 
-// The companion is read, does what it is asked, and is written back beside its bus.
-fn ask(image: &mut [u8], bus: Bus, deed: Deed) -> Reply
+// The companion is read, does what it is asked, and is written back beside its bus, whose bytes stay.
+fn ask(image: &mut [u8], deed: Deed) -> Reply
     requires { (length image.old ≡ image_size) × (FIRST ≤ get_or image.old COMPANION_ADDRESS_AT 0) × (get_or image.old COMPANION_ADDRESS_AT 0 ≤ LAST) }
-    ensures { (s : State) → image.old ≡ image_of s → bus ≡ s.bus
+    ensures { (s : State) → image.old ≡ image_of s
         → Served s (Serve.served_of companion31 deed s.counters) result image.new }
 {
     let served = serve(counters_at(image), deed);
-    let state = State {
-        bus,
-        counters: served.companion,
-    };
-    write_image(state, image);
+    write_counters(served.companion, image);
     served.reply
 }
 
 // What an event asks of the companion, done where it lies.
-pub(crate) fn serve_at(image: &mut [u8], bus: Bus, deed: Deed) -> Reply
+pub(crate) fn serve_at(image: &mut [u8], deed: Deed) -> Reply
     requires { (length image.old ≡ image_size) × (FIRST ≤ get_or image.old COMPANION_ADDRESS_AT 0) × (get_or image.old COMPANION_ADDRESS_AT 0 ≤ LAST) }
-    ensures { (s : State) → image.old ≡ image_of s → bus ≡ s.bus
+    ensures { (s : State) → image.old ≡ image_of s
         → Served s (Serve.served_of companion31 deed s.counters) result image.new }
 {
     if let Deed::Nothing = deed {
@@ -42,5 +37,5 @@ pub(crate) fn serve_at(image: &mut [u8], bus: Bus, deed: Deed) -> Reply
             byte: 0,
         };
     }
-    ask(image, bus, deed)
+    ask(image, deed)
 }

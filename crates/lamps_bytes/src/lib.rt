@@ -6,6 +6,7 @@
 ghost use Rattle.std.specs.Prelude.{◌≡◌, ◌<◌, length};
 ghost use Rattle.lamps_bytes.specs.Kept.{lamp_in, lamps_in, kept_of, bytes_of, lamp_fits, lamps_fit, is_kept};
 
+use bus_image::bytes::copy;
 use lamps::{Follower, Proving};
 use lamps_eight::{Lamp, Lamps};
 
@@ -56,10 +57,11 @@ pub fn read(kept: &[u8]) -> Proving
 }
 
 // A transaction gave nothing, 1, or something else; at most three ticks are left.
+// Stays (speed): `&`, here and in the two below, has all bytes tested at once, `&&` one by one.
 fn lamp_fits(lamp: Lamp) -> bool
     ensures { result ≡ lamp_fits lamp }
 {
-    lamp.held <= 2 && lamp.left <= 3
+    (lamp.held <= 2) & (lamp.left <= 3)
 }
 
 // All eight.
@@ -67,13 +69,13 @@ fn lamps_fit(lamps: Lamps) -> bool
     ensures { result ≡ lamps_fit lamps }
 {
     lamp_fits(lamps.zero)
-        && lamp_fits(lamps.one)
-        && lamp_fits(lamps.two)
-        && lamp_fits(lamps.three)
-        && lamp_fits(lamps.four)
-        && lamp_fits(lamps.five)
-        && lamp_fits(lamps.six)
-        && lamp_fits(lamps.seven)
+        & lamp_fits(lamps.one)
+        & lamp_fits(lamps.two)
+        & lamp_fits(lamps.three)
+        & lamp_fits(lamps.four)
+        & lamp_fits(lamps.five)
+        & lamp_fits(lamps.six)
+        & lamp_fits(lamps.seven)
 }
 
 // Whether the bytes hold a record.
@@ -81,7 +83,7 @@ fn lamps_fit(lamps: Lamps) -> bool
 pub fn is_kept(kept: &[u8]) -> bool
     ensures { result ≡ is_kept kept.now }
 {
-    kept.len() == RECORD && kept[0] <= 1 && kept[1] <= 31 && lamps_fit(lamps_in(kept))
+    kept.len() == RECORD && (kept[0] <= 1) & (kept[1] <= 31) & lamps_fit(lamps_in(kept))
 }
 
 // The bytes of a record.
@@ -120,5 +122,5 @@ pub fn write(proving: Proving, kept: &mut [u8])
     requires { length kept.old ≡ 20 }
     ensures { kept.new ≡ bytes_of proving }
 {
-    kept.copy_from_slice(&bytes_of(proving));
+    copy(&bytes_of(proving), kept);
 }

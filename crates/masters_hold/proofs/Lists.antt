@@ -1,13 +1,12 @@
 -- SPDX-License-Identifier: Apache-2.0
 -- A call's events: whether some is one of the bus, and whether they free it.
 use Prim.Native.Nat.{ℕ, ◌≤◌, ◌<◌}
-use mathlib.Core.Path.{◌≡◌, refl}
-use mathlib.Core.Bool.{Bool, true}
+use mathlib.Core.Path.{◌≡◌, refl, sym, ◌∙◌}
+use mathlib.Core.Bool.{Bool, true, ◌||◌, or_assoc, or-false}
 use mathlib.Core.List.{List, [], ◌∷◌}
 use native.Mathlib.Omega.{arith}
 use lib.Dec.{leb, eqb}
 use borrow.Author.Tests.{le-leb, lt-leb, eqb-true, eqb-false, ne_eqb}
-use Rattle.std.specs.List.{list_any}
 use Rattle.std.proofs.Common.{fold}
 use Rattle.wire.proofs.Tests.{by_test}
 use Rattle.fm3130.specs.Event.{happening}
@@ -29,9 +28,9 @@ bus_byte_lem e =
     above : (e : ℕ) → (e ≡ 0 → ⊥) → (e ≡ 1 → ⊥) → (e ≡ 2 → ⊥) → (e ≡ 3 → ⊥) → 3 < e
     above e p q r s = omega arith
 
-pub any_listed : (es : List ℕ) → list_any (λ e. leb e 3) es ≡ any_bus es
-any_listed [] = refl
-any_listed (e ∷ es) = rw (bus_byte_lem e, any_listed es) refl
+pub any_fold : (k : Bool) (es : List ℕ) → fold (λ k e. k || leb e 3) k es ≡ (k || any_bus es)
+any_fold k [] = sym (or-false k)
+any_fold k (e ∷ es) = any_fold (k || leb e 3) es ∙ rw (bus_byte_lem e) (or_assoc k (leb e 3) (any_bus es))
 
 pub frees_fold : (f : Bool) (es : List ℕ) → fold (λ f e. freed_by f (happening e)) f es ≡ frees f es
 frees_fold f [] = refl

@@ -66,11 +66,12 @@ pub fn may_ask(holder: Option<Master>, master: Master) -> bool
     holder.is_none_or(|by| by == master)
 }
 
-// Whether some event is one of the bus: a Start, a Stop or a Clock.
+// Whether some event is one of the bus: a Start, a Stop or a Clock. All are tested, by a fold and not by `any`, which stops early, so that
+// many go at once.
 fn any_bus(events: &[u8]) -> bool
     ensures { result ≡ any_bus events.now }
 {
-    events.iter().any(|event| *event <= 3)
+    events.iter().fold(false, |any, event| any | (*event <= 3))
 }
 
 // Whether a master may do these events: it holds the bus, or none of them is one of the bus.

@@ -4,6 +4,7 @@ ghost use Rattle.std.specs.Prelude.{◌≡◌, ◌*◌, ◌≤◌, length};
 ghost use Rattle.fm31_image.specs.Image.{image_size};
 ghost use Rattle.set_image.specs.Write.{image_in, images_of};
 
+use bus_image::bytes::copy;
 use fm31::State;
 use fm31_image::image::{LENGTH, image_of};
 use set_event::Set;
@@ -15,7 +16,7 @@ fn write_at(state: State, images: &mut [u8], count: u8, place: u8)
 {
     if place < count {
         let from = LENGTH * place as usize;
-        images[from..from + LENGTH].copy_from_slice(&image_of(state));
+        copy(&image_of(state), &mut images[from..from + LENGTH]);
     }
 }
 

@@ -7,7 +7,7 @@ use mathlib.Core.List.{List, [], ◌∷◌, ◌++◌, append_assoc, append-nil}
 use native.Mathlib.Omega.{arith}
 use native.Mathlib.Numerals.{add-one}
 use lib.ListN.{length, take, drop, get_or, set, length-append}
-use lib.Seq.{sets, sets-eq, drop-drop, length-sets, take-suc}
+use lib.Seq.{sets, sets-eq, drop-drop, length-sets, length-take-le, take-suc, take_all}
 use borrow.Rule.Slice.PartMut.{put_mid}
 use Rattle.wire_clocks.specs.Events.{written, asked, all_written, asked_on, all_asked, write_events, read_events, write_count, read_count}
 use Rattle.wire_clocks.specs.Code.Laid.{Laid}
@@ -27,6 +27,13 @@ laid_then {e} {at = at} {r = r} {xs = xs} {ys = ys} p q =
 
 pub laid_length : {e e' : List ℕ} {at r : ℕ} {xs : List ℕ} → Laid e at xs r e' → length e' ≡ length e
 laid_length {e} {at = at} {xs = xs} p = ap length p.buffer ∙ length-sets e at xs
+
+-- one byte more of a slice
+pub lay_more : (e from : List ℕ) (at i : ℕ) → i < length from
+    → set (sets e at (take i from)) (at + i) (get_or from i 0) ≡ sets e at (take (i + 1) from)
+lay_more e from at i h =
+    let n : at + i ≡ at + length (take i from) = rw (length-take-le i from (omega arith)) refl in
+    rw (add-one, take-suc from i 0 h) (sets_append e at (at + i) (take i from) (get_or from i 0 ∷ []) n)
 
 -- the whole front
 pub front : (e xs : List ℕ) → length xs ≤ length e → sets e 0 xs ≡ xs ++ drop (length xs) e
@@ -85,3 +92,9 @@ pub laid_part : (e from : List ℕ) (at k : ℕ) → k ≡ length from → at + 
     → Laid e at from (at + length from) (put_mid at k e from)
 laid_part e from at k q h =
     record { place = refl; buffer = rw q (ap (λ (r : List ℕ). take at e ++ (from ++ r)) (drop-drop (length from) at e) ∙ sym (append_assoc (take at e) from (drop (at + length from) e)) ∙ sym (sets-eq from e at h)) }
+
+-- a whole slice
+pub laid_all : (e from e' : List ℕ) (at i : ℕ) → i ≤ length from → length from ≤ i → e' ≡ sets e at (take i from)
+    → Laid e at from (at + i) e'
+laid_all e from e' at i h g q =
+    record { place = omega arith; buffer = q ∙ ap (λ (l : List ℕ). sets e at l) (take_all i from g) }

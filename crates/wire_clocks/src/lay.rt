@@ -49,13 +49,15 @@ fn nine_clocks(byte: u8, ninth: bool) -> [u8; 9]
 }
 
 // A list of events.
+// Stays (speed): one by one, so that the Clocks of a byte go straight into the buffer; `copy_from_slice` has them laid on the stack first.
 fn lay(from: &[u8], events: &mut [u8], at: usize) -> usize
     requires { at + length from.now ≤ length events.old }
     ensures { Laid events.old at from.now result events.new }
 {
-    let end = at + from.len();
-    events[at..end].copy_from_slice(from);
-    end
+    for i in 0..from.len() {
+        events[at + i] = from[i];
+    }
+    at + from.len()
 }
 
 // A byte, with the master's line at its ninth clock.

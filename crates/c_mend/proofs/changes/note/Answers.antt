@@ -8,8 +8,8 @@ pub returns-then-old-new : goal.returns-then-old-new
 returns-then-old-new c =
     let a = c.args in note_same a.changes.now a.at a.number a.old a.new c.if-old-new.true
 
-pub slice_bounds-copy_from_slice-end : goal.slice_bounds-copy_from_slice-end
-slice_bounds-copy_from_slice-end c =
+pub slice_bounds-copy-end-2 : goal.slice_bounds-copy-end-2
+slice_bounds-copy-end-2 c =
     let a = c.args in
     let w = note_room a.changes.now a.at a.number a.old a.new c.if-old-new.false in
     search rules
@@ -17,4 +17,4 @@ slice_bounds-copy_from_slice-end c =
 pub returns : goal.returns
 returns c =
     let a = c.args in
-    note_other a.changes.now a.at a.number a.old a.new c.if-old-new.false c.requires _ c.copy_from_slice.ensures.after
+    note_other a.changes.now a.at a.number a.old a.new c.if-old-new.false c.requires _ c.copy.ensures

@@ -23,7 +23,7 @@ pub write_bus-requires : goal.write_bus-requires
 write_bus-requires c =
     let v = c in
     let s = v in
-    served_long _ _ _ _ s.requires.accepted _ v.bus_at-bus.ensures _ v.deed_of.result _ v.serve_at-reply.ensures
+    served_long _ _ _ _ s.requires.accepted _ v.bus_at-bus.ensures _ v.deed_of.result _ (λ s e u. v.serve_at-reply.ensures s e)
 
 pub returns : goal.returns
 returns c =
@@ -31,4 +31,5 @@ returns c =
     let b = v in
     let s = b in
     happened _ _ _ _ s.requires.accepted _ b.bus_at-bus.ensures _ _ _ _ _ _ _ _ _ refl v.deed_of.ensures
-    v.serve_at-reply.ensures c.happen-went.ensures (λ s e. bus_written s _ _ _ e c.write_bus.ensures) c.answer_byte.ensures
+    (λ s e u. v.serve_at-reply.ensures s e) c.happen-went.ensures (λ s e. bus_written s _ _ _ e c.write_bus.ensures)
+    c.answer_byte.ensures

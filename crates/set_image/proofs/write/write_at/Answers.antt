@@ -12,7 +12,7 @@ pub returns-then-place-count : goal.returns-then-place-count
 unfolding image_in
 returns-then-place-count c =
     let a = c.args in
-    let written : c.copy_from_slice.new.self ≡ image_of a.state = search rules in
+    let written : c.copy.new.to ≡ image_of a.state = search rules in
     rw (lt-ltb a.place a.count c.if-place-count.true)
     (put_mid-paste (image_size * a.place) _ a.images.now _ (image_of a.state) image_size written (omega arith)
     (sym (image_length a.state)))
