@@ -8,7 +8,8 @@ use Rattle.wire_clocks.proofs.lay.lay_opening.Goals as goal
 
 pub returns : goal.returns
 returns c =
-    let high : c.args.address / 256 % 256 ≡ c.args.address / 256 = omega (arith, c.ranges.address.fits) in
-    laid_then c.lay_event-started.ensures
+    let high : c.args.address / 256 ≡ c.args.address / 256 % 256 = omega (arith, c.ranges.address.fits) in
+    rw high
+    (laid_then c.lay_event-started.ensures
     (laid_then c.lay_byte-named.ensures
-    (laid_then (rw (c.to_be_bytes.ensures, high) at c.lay_byte-half.ensures) (rw c.to_be_bytes.ensures at c.lay_byte.ensures)))
+    (laid_then (rw c.to_be_bytes.ensures at c.lay_byte-half.ensures) (rw c.to_be_bytes.ensures at c.lay_byte.ensures))))
