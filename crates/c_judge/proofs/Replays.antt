@@ -171,11 +171,23 @@ pub judged_as : (x y : ℕ) → x ≡ y → (s : State) (m es bs : List ℕ) (n 
     → Judged s m (take x es) (take x bs) n v i' m' → Judged s m (take y es) (take y bs) n v i' m'
 judged_as x y e s m es bs n v i' m' j = rw e at j
 
--- the same of a part of the file, which is a part of the section
-pub judged_in : (f : List ℕ) (from count i n : ℕ) → i + n ≤ count → (s : State) (m bs : List ℕ) (k : ℕ) (v : Verdict)
-    (i' m' : List ℕ) → Judged s m (section f (from + i) n) bs k v i' m'
-    → Judged s m (take n (drop i (section f from count))) bs k v i' m'
-judged_in f from count i n h s m bs k v i' m' j = rw (section_part f from count i n h) j
+-- what is cut off the rest of the recorded answers, and its events in the file
+module _ (a r c : List ℕ) (i k : ℕ) (e : r ≡ drop i a) (g : c ≡ take k r) (h : i + k ≤ length a) where
+  cut_part : c ≡ take k (drop i a)
+  cut_part = g ∙ ap (λ (l : List ℕ). take k l) e
+
+  pub cut_length : length c ≡ k
+  cut_length = ap length cut_part ∙ part_length a i k h
+
+  module _ (f : List ℕ) (from : ℕ) where
+    pub cut_events : take (length c) (drop (from + i) f) ≡ take k (drop i (section f from (length a)))
+    cut_events = (λ x. take (cut_length x) (drop (from + i) f)) ∙ sym (section_part f from (length a) i k h)
+
+    -- so it is judged as a part of the section
+    pub judged_cut : (s : State) (m : List ℕ) (v : Verdict) (i' m' : List ℕ)
+        → Judged s m (take (length c) (drop (from + i) f)) c i v i' m'
+        → Judged s m (take k (drop i (section f from (length a)))) (take k (drop i a)) i v i' m'
+    judged_cut s m v i' m' j = rw (sym cut_events, sym cut_part) j
 
 -- room for a stretch, in an array of zeros
 pub room_length : (n : ℕ) → n ≤ longest → length (take n (replicate {A = ℕ} longest 0)) ≡ n

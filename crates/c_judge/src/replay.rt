@@ -46,47 +46,45 @@ fn beside(recorded: &[u8], right: &[u8], from: usize) -> Verdict
     Verdict::Agree(from + recorded.len())
 }
 
-// As many events from a place of the file on as there is room for, beside their answers, before which there are so many.
+// As many events from a place of the file on as there is room for, beside their recorded answers; so many came before.
 fn stretch(
     image: &mut [u8],
     memory: &mut [u8],
     file: &[u8],
     events: usize,
-    answers: &[u8],
-    at: usize,
+    recorded: &[u8],
+    before: usize,
     asked: &mut [u8],
     given: &mut [u8],
 ) -> Verdict
     requires accepted { Accepted image.old memory.old }
-    requires asked_in_bounds { (events + length asked.old ≤ length file.now) × (at + length asked.old ≤ length answers.now)
-        × (length given.old ≡ length asked.old) × (at + length asked.old < 2 ^ 64) }
+    requires asked_in_bounds { (events + length asked.old ≤ length file.now) × (length asked.old ≡ length recorded.now)
+        × (length given.old ≡ length asked.old) × (before + length asked.old < 2 ^ 64) }
     requires events_known { all_known (take (length asked.old) (drop events file.now)) ≡ true }
     ensures { Judged (candidate image.old) memory.old
-        (take (length asked.old) (drop events file.now)) (take (length asked.old) (drop at answers.now)) at
+        (take (length asked.old) (drop events file.now)) recorded.now before
         result image.new memory.new }
 {
-    let to = at + asked.len();
     fetch(file, events, asked);
     run_events(image, memory, asked, given);
-    beside(&answers[at..to], given, at)
+    beside(recorded, given, before)
 }
 
-// So many of them, with room of its own.
+// The same with room of its own, for as many as the answers.
 fn with_room(
     image: &mut [u8],
     memory: &mut [u8],
     file: &[u8],
     events: usize,
-    answers: &[u8],
-    at: usize,
-    long: usize,
+    recorded: &[u8],
+    before: usize,
 ) -> Verdict
     requires accepted { Accepted image.old memory.old }
-    requires long_in_bounds { (events + long ≤ length file.now) × (at + long ≤ length answers.now) × (long ≤ longest)
-        × (at + long < 2 ^ 64) }
-    requires events_known { all_known (take long (drop events file.now)) ≡ true }
+    requires long_in_bounds { (events + length recorded.now ≤ length file.now) × (length recorded.now ≤ longest)
+        × (before + length recorded.now < 2 ^ 64) }
+    requires events_known { all_known (take (length recorded.now) (drop events file.now)) ≡ true }
     ensures { Judged (candidate image.old) memory.old
-        (take long (drop events file.now)) (take long (drop at answers.now)) at
+        (take (length recorded.now) (drop events file.now)) recorded.now before
         result image.new memory.new }
 {
     let mut asked = [0u8; LONGEST];
@@ -96,10 +94,10 @@ fn with_room(
         memory,
         file,
         events,
-        answers,
-        at,
-        &mut asked[..long],
-        &mut given[..long],
+        recorded,
+        before,
+        &mut asked[..recorded.len()],
+        &mut given[..recorded.len()],
     )
 }
 
@@ -129,13 +127,15 @@ pub(crate) fn replay(
 {
     // Stays (plain): two lists go on by stretches together, and how many came before is a part of the verdict.
     let mut i = 0;
-    while i < answers.len() {
-        let long = LONGEST.min(answers.len() - i);
-        let told = with_room(image, memory, file, events + i, answers, i, long);
+    let mut rest = answers;
+    while !rest.is_empty() {
+        let (recorded, later) = rest.split_at(LONGEST.min(rest.len()));
+        let told = with_room(image, memory, file, events + i, recorded, i);
         if !told.agrees() {
             return told;
         }
-        i += long;
+        i += recorded.len();
+        rest = later;
     }
     Verdict::Agree(i)
 }
