@@ -106,8 +106,8 @@ fn with_midnight(sum: u32, next: Advanced) -> u32 {
         after.year,
         u8::from(next.century),
     ]
-    .into_iter()
-    .fold(sum, with_byte)
+    .iter()
+    .fold(sum, |sum, byte| with_byte(sum, *byte))
 }
 
 // Every midnight of the century, each day reached from the last second of the one before; a line at the end of a year.

@@ -13,7 +13,7 @@ use std::io::Read;
 use std::{fmt, io};
 
 // One byte more than the longest capture, to know that there are more.
-const ROOM: u64 = 61441;
+const ROOM: usize = 61441;
 
 // A verdict as a line of text.
 #[derive(Clone, Copy)]
@@ -38,7 +38,7 @@ impl fmt::Display for Said {
 }
 
 fn main(rt: HostRuntime) -> io::Result<()> {
-    let mut capture = Vec::new(rt.alloc());
-    rt.reader().take(ROOM).read_to_end(&mut capture)?;
-    println!(rt; "{}", Said(judge(&capture)))
+    let mut capture = [0; ROOM];
+    let count = io::copy(&mut rt.reader().take(ROOM as u64), &mut &mut capture[..])?;
+    println!(rt; "{}", Said(judge(&capture[..ROOM.min(count as usize)])))
 }

@@ -15,7 +15,7 @@ use std::io::Read;
 const ANEW: u8 = 255;
 
 // The most bytes that are read.
-const ROOM: u64 = 65536;
+const ROOM: usize = 65536;
 
 // A device: its state as an image, its memory, and the record that its lamps follow.
 #[derive(Clone, Copy)]
@@ -70,7 +70,7 @@ fn play(rt: &impl Print, input: &[u8]) -> io::Result<()> {
 }
 
 fn main(rt: HostRuntime) -> io::Result<()> {
-    let mut input = Vec::new(rt.alloc());
-    rt.reader().take(ROOM).read_to_end(&mut input)?;
-    play(&rt, &input)
+    let mut input = [0; ROOM];
+    let count = io::copy(&mut rt.reader().take(ROOM as u64), &mut &mut input[..])?;
+    play(&rt, &input[..ROOM.min(count as usize)])
 }

@@ -17,14 +17,13 @@ use fm3130_accept::decode;
 use fm3130_image::write::image_of;
 use fm3130_image::{LENGTH, MEMORY};
 use numbers::ACCEPTED;
-use std::alloc::Global;
 use std::io;
 use std::io::{ErrorKind, Read};
 
 // A length that stands for a fresh device.
 const ANEW: u16 = 65535;
 
-// Room for the answers to the longest frame of events.
+// Room for the longest frame of events, and for the answers to it.
 const ROOM: usize = 65536;
 
 // The most frames that one run reads.
@@ -94,8 +93,8 @@ impl Device {
     fn frame(
         &mut self,
         rt: &impl Print,
-        alloc: Global,
         input: &mut impl Read,
+        events: &mut [u8; ROOM],
         answers: &mut [u8; ROOM],
     ) -> io::Result<()> {
         let mut header = [0; 2];
@@ -105,9 +104,8 @@ impl Device {
             0 => self.report(rt)?,
             length => {
                 let length = usize::from(length);
-                let mut events = vec![in alloc; 0; length]?;
-                input.read_exact(&mut events)?;
-                self.run_events(rt, &events, &mut answers[..length])?;
+                input.read_exact(&mut events[..length])?;
+                self.run_events(rt, &events[..length], &mut answers[..length])?;
             }
         }
         Ok(())
@@ -115,17 +113,18 @@ impl Device {
 }
 
 // Every frame of the input.
-fn all_frames(rt: &impl Print, alloc: Global, input: &mut impl Read) -> io::Result<()> {
+fn all_frames(rt: &impl Print, input: &mut impl Read) -> io::Result<()> {
     let mut device = Device::new();
+    let mut events = [0; ROOM];
     let mut answers = [0; ROOM];
     for _ in 0..FRAMES {
-        device.frame(rt, alloc, input, &mut answers)?;
+        device.frame(rt, input, &mut events, &mut answers)?;
     }
     Ok(())
 }
 
 fn main(rt: HostRuntime) -> io::Result<()> {
-    match all_frames(&rt, rt.alloc(), &mut rt.reader()) {
+    match all_frames(&rt, &mut rt.reader()) {
         Err(e) if e.kind() == ErrorKind::UnexpectedEof => Ok(()),
         outcome => outcome,
     }
