@@ -33,17 +33,13 @@ fn judge_sound(file: &[u8]) -> Verdict
     requires { first_faulty file.now ≡ None }
     ensures { result ≡ verdict_on file.now None }
 {
+    let events = entry_of(file, Kind::Events as u32).from as usize;
+    let answers = section(file, Kind::Answers);
     let mut image = [0; LENGTH];
     copy(section(file, Kind::Image), &mut image);
     let mut memory = [0; MEMORY];
     copy(section(file, Kind::Memory), &mut memory);
-    replay(
-        &mut image,
-        &mut memory,
-        file,
-        entry_of(file, Kind::Events as u32).from as usize,
-        section(file, Kind::Answers),
-    )
+    replay(&mut image, &mut memory, file, events, answers)
 }
 
 // A verdict's number and values.

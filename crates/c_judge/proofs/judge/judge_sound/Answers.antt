@@ -25,8 +25,8 @@ replay-requires c =
     let z = c.requires in
     let i = c.copy.ensures ∙ c.section.ensures in
     let m = c.copy-2.ensures ∙ c.section-2.ensures in
-    let ev = c.entry_of.ensures in
-    let a = c.section-3.ensures in record {
+    let ev = c.entry_of-events.ensures in
+    let a = c.section-answers.ensures in record {
       accepted = record { image = ap is_image i ∙ image_good f z; memory = ap length m ∙ memory_length f z };
       count_in_bounds = rw a (events_inside f z _ ev);
       events_known = rw a (ap all_known (events_section f z _ ev) ∙ events_known f z _ refl);
@@ -36,4 +36,4 @@ pub returns : goal.returns
 returns c =
     let i = c.copy.ensures ∙ c.section.ensures in
     let m = c.copy-2.ensures ∙ c.section-2.ensures in
-    c.replay.ensures ∙ replay_found c.args.file.now c.requires _ c.entry_of.ensures _ _ _ i m c.section-3.ensures
+    c.replay.ensures ∙ replay_found c.args.file.now c.requires _ c.entry_of-events.ensures _ _ _ i m c.section-answers.ensures
