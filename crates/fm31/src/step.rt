@@ -73,8 +73,11 @@ impl State {
         ensures { AnsweredWith size select result memory.new (event_of size select self memory.old event) }
     {
         let bus = self.bus;
-        let guard = self.counters.guard();
-        let served = serve(self.counters, deed_of(bus, event));
+        // A local of its own: where the protection is read out of `self`, bytes beside it are split and joined again at each
+        // event of a list.
+        let counters = self.counters;
+        let guard = counters.guard();
+        let served = serve(counters, deed_of(bus, event));
         let went = bus.happen(memory, size, select, guard, served.reply, event);
         Answered {
             state: State {
