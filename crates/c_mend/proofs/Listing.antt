@@ -9,9 +9,10 @@ use native.Mathlib.Numerals.{add-one}
 use lib.Dec.{eqb}
 use borrow.Rule.Slice.PartMut.{put_mid, same_len_mid, mid_len}
 use lib.ListN.{length, take, drop, get_or, length-append, drop_of_length-le}
-use lib.Seq.{drop-cons, drop-drop}
+use lib.Seq.{drop-cons, drop-drop, take_all}
 use Rattle.std.proofs.lemmas.Slice.{take-put_mid, drop-put_mid}
-use Rattle.std.proofs.lemmas.List.Sums.{sum_by-cons}
+use Rattle.std.proofs.lemmas.List.Sums.{sum_by-cons, count_by_more_yes, count_by_more_no}
+use Rattle.std.proofs.lemmas.Slice.Zip.{get_or-zip, length-zip}
 use Rattle.std.specs.Prelude.{zip, count_by, cond, not}
 use borrow.Author.Tests.{eq-eqb, ne_eqb}
 use Rattle.wire.proofs.Tests.{by_test}
@@ -174,3 +175,27 @@ module _ {ch₀ whole ch : List ℕ} {at : ℕ} {old : List ℕ} (w : Going ch�
         rest = w.kept;
         same = w.same;
       }
+
+-- one place more of two lists that are counted where they differ
+module _ (xs ys : List ℕ) (i : ℕ) (h : i < length xs) (g : i < length ys) where
+  inside : i < length (zip xs ys)
+  inside = rw (length-zip xs ys) (grind arith)
+
+  pub differ_more : (get_or xs i 0 ≡ get_or ys i 0 → ⊥)
+      → count_by (λ p. not (eqb p.0 p.1)) (take (i + 1) (zip xs ys))
+      ≡ count_by (λ p. not (eqb p.0 p.1)) (take i (zip xs ys)) + 1
+  differ_more n =
+      count_by_more_yes _ (zip xs ys) i (0, 0) inside
+      (rw (get_or-zip xs ys i (0, 0) h g, ne_eqb (get_or xs i 0) (get_or ys i 0) n) refl)
+
+  pub same_more : get_or xs i 0 ≡ get_or ys i 0
+      → count_by (λ p. not (eqb p.0 p.1)) (take (i + 1) (zip xs ys))
+      ≡ count_by (λ p. not (eqb p.0 p.1)) (take i (zip xs ys))
+  same_more e =
+      count_by_more_no _ (zip xs ys) i (0, 0) inside
+      (rw (get_or-zip xs ys i (0, 0) h g, eq-eqb (get_or xs i 0) (get_or ys i 0) e) refl)
+
+pub all_counted : (xs ys : List ℕ) (i : ℕ) → length xs ≤ i → length ys ≤ i → {n : ℕ}
+    → n ≡ count_by (λ p. not (eqb p.0 p.1)) (take i (zip xs ys)) → n ≡ count_by (λ p. not (eqb p.0 p.1)) (zip xs ys)
+all_counted xs ys i h g e =
+    let l : length (zip xs ys) ≤ i = rw (length-zip xs ys) (grind arith) in e ∙ ap (count_by (λ p. not (eqb p.0 p.1))) (take_all i (zip xs ys) l)

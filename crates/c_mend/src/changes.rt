@@ -34,12 +34,15 @@ pub(crate) fn write_changes(before: &[u8; 7], after: &[u8; 7], changes: &mut [u8
 }
 
 // In how many places two lists of bytes differ.
+// A loop, which is laid out seven times in a row; `filter` and `count` are not, and cost the entry a fifth more.
 pub(crate) fn count_changes(before: &[u8; 7], after: &[u8; 7]) -> usize
     ensures { result ≡ count_by (λ p. not (p.0 == p.1)) (zip before.now after.now) }
 {
-    before
-        .iter()
-        .zip(after)
-        .filter(|(old, new)| **old != **new)
-        .count()
+    let mut count = 0;
+    for (i, &old) in before.iter().enumerate() {
+        if old != after[i] {
+            count += 1;
+        }
+    }
+    count
 }
