@@ -2,7 +2,7 @@
 // The set that a plan and images hold. A plan has one byte a device: bits 1 and 0 are its select bits, bit 2 is 1 for the
 // 256Kb size; the image of the device at place 0 to 3 begins at 64 times that place.
 ghost use Rattle.std.specs.Prelude.{◌≡◌, ◌≤◌, ◌<◌, length};
-ghost use Rattle.set_image.specs.Read.{count_of, mark_size, untold, device_at, place_of, reading_of};
+ghost use Rattle.set_image.specs.Read.{count_of, mark_size, unread, device_at, place_of, reading_of};
 
 use crate::{Got, Reading};
 use bus::select::LONE;
@@ -31,12 +31,12 @@ fn mark_size(mark: u8) -> Size
     }
 }
 
-// A device of which no image tells: what is not on the line, and one whose image no well-formed state writes.
-fn untold(good: bool, size: Size, select: u8) -> Got
-    ensures { result ≡ untold good size select }
+// A device whose image no well-formed state writes, or that has none.
+fn unread(size: Size, select: u8) -> Got
+    ensures { result ≡ unread size select }
 {
     Got {
-        good,
+        good: false,
         member: Member {
             size,
             select,
@@ -55,10 +55,10 @@ fn device_at(plan: &[u8], images: &[u8], place: usize) -> Got
     let select = mark % 4;
     let from = LENGTH * place;
     if images.len() < from + LENGTH {
-        return untold(false, size, select);
+        return unread(size, select);
     }
     let Some(state) = decode(&images[from..from + LENGTH], size_of(size), select) else {
-        return untold(false, size, select);
+        return unread(size, select);
     };
     Got {
         good: mark < 8,
@@ -71,15 +71,22 @@ fn device_at(plan: &[u8], images: &[u8], place: usize) -> Got
 }
 
 // What is at a place, on the line or not.
+// What is not on the line is spelled out, with no function of its own: it is then known whole where the program is compiled.
 #[tactic(auto, unfolding(crate::specs::Read::place_of))]
 fn place_of(plan: &[u8], images: &[u8], place: usize) -> Got
     requires { place ≤ 3 }
     ensures { result ≡ place_of plan.now images.now place }
 {
     if place < plan.len() {
-        device_at(plan, images, place)
-    } else {
-        untold(true, Size::Kb64, LONE)
+        return device_at(plan, images, place);
+    }
+    Got {
+        good: true,
+        member: Member {
+            size: Size::Kb64,
+            select: LONE,
+            state: State::fresh(),
+        },
     }
 }
 

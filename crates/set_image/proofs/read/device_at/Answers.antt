@@ -15,7 +15,7 @@ use Rattle.set_image.proofs.read.device_at.Goals as goal
 pub returns-then-images-from : goal.returns-then-images-from
 returns-then-images-from c =
     let a = c.args in
-    c.untold.ensures
+    c.unread.ensures
     ∙ sym (device_short a.plan.now a.images.now a.place _ c.mark_size-size.ensures
     c.if-images-from.true)
 
@@ -25,7 +25,7 @@ returns-in_default c =
     let a = d.args in
     let mark = get_or a.plan.now a.place 0 in
     let k = d.mark_size-size.result in
-    c.untold-in_default.ensures
+    c.unread-in_default.ensures
     ∙ sym ((let shown : (let a = d.args in device_at a.plan.now a.images.now a.place ≡ got_of (ltb (get_or a.plan.now a.place 0) 8) d.mark_size-size.result (get_or a.plan.now a.place 0 % 4) d.decode.result) = let m = d in let a = m.args in let n : 64 * a.place + 64 - 64 * a.place ≡ 64 = omega arith in let z = d.size_of in device_read a.plan.now a.images.now a.place m.mark_size-size.result m.mark_size-size.ensures z.result d.decode.result z.ensures (rw n at d.decode.ensures) in shown) ∙ ap (λ (x : Option State). got_of (ltb mark 8) k (mark % 4) x) c.in_default.is)
 
 pub returns : goal.returns
