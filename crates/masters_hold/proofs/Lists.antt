@@ -7,6 +7,7 @@ use mathlib.Core.List.{List, [], ◌∷◌}
 use native.Mathlib.Omega.{arith}
 use lib.Dec.{leb, eqb}
 use borrow.Author.Tests.{le-leb, lt-leb, eqb-true, eqb-false, ne_eqb}
+use Rattle.std.specs.List.{list_any}
 use Rattle.std.proofs.Common.{fold}
 use Rattle.wire.proofs.Tests.{by_test}
 use Rattle.fm3130.specs.Event.{happening}
@@ -27,6 +28,10 @@ bus_byte_lem e =
   where
     above : (e : ℕ) → (e ≡ 0 → ⊥) → (e ≡ 1 → ⊥) → (e ≡ 2 → ⊥) → (e ≡ 3 → ⊥) → 3 < e
     above e p q r s = omega arith
+
+pub any_listed : (es : List ℕ) → list_any (λ e. leb e 3) es ≡ any_bus es
+any_listed [] = refl
+any_listed (e ∷ es) = rw (bus_byte_lem e, any_listed es) refl
 
 pub any_fold : (k : Bool) (es : List ℕ) → fold (λ k e. k || leb e 3) k es ≡ (k || any_bus es)
 any_fold k [] = sym (or-false k)
