@@ -131,6 +131,7 @@ ctest: library host ## the archives through the C headers (the official one too)
 	@tests/c/install.sh $(CC)
 	@tests/c/alone.sh build/ctest/alone build/lib/libfm3130.a $(CC)
 	@tests/c/alone.sh build/ctest/alone build/lib/x86_64/libfm3130.a $(CC_X86_64)
+	@tests/c/outside.sh dist
 	@tests/c/host.sh $(HOST) build/ctest/host
 	@$(PATIENT) 'the guide is followed' tests/c/guide.py build/ctest/guide
 	@tests/c/numbers.sh build/ctest $(CC) $(C99)
