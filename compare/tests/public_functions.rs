@@ -542,7 +542,8 @@ fn no_crate_declares_an_axiom() {
     assert!(assuming.is_empty(), "{assuming:?}");
 }
 
-/// One axiom for each function of the C library that a program calls; std calls it where the program reads or prints.
+/// One axiom for each function of the C library that a program calls; std calls it where the program reads, prints or keeps
+/// something on the heap.
 #[test]
 fn the_axioms_are_those_of_the_functions_called() {
     for row in rows_below(ASSUMED) {
@@ -554,6 +555,7 @@ fn the_axioms_are_those_of_the_functions_called() {
             for (handles, function) in [
                 (["impl Read", "rt.reader()"], "read"),
                 (["impl Print", "println!(rt;"], "write"),
+                (["rt.alloc()", "alloc: Global"], "rattle_alloc"),
             ] {
                 assert_eq!(
                     handles.iter().any(|handle| program.contains(handle)),

@@ -38,6 +38,7 @@ impl fmt::Display for Said {
 }
 
 fn main(rt: HostRuntime) -> io::Result<()> {
+    // Stays (fixed): an array and no Vec, here and in the other programs: none rests on the heap.
     let mut capture = [0; ROOM];
     let count = io::copy(&mut rt.reader().take(ROOM as u64), &mut &mut capture[..])?;
     println!(rt; "{}", Said(judge(&capture[..ROOM.min(count as usize)])))

@@ -70,6 +70,7 @@ fn play(rt: &impl Print, input: &[u8]) -> io::Result<()> {
 }
 
 fn main(rt: HostRuntime) -> io::Result<()> {
+    // Stays (fixed): an array and no Vec, as in main_judge.
     let mut input = [0; ROOM];
     let count = io::copy(&mut rt.reader().take(ROOM as u64), &mut &mut input[..])?;
     play(&rt, &input[..ROOM.min(count as usize)])

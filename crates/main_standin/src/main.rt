@@ -115,6 +115,7 @@ impl Device {
 // Every frame of the input.
 fn all_frames(rt: &impl Print, input: &mut impl Read) -> io::Result<()> {
     let mut device = Device::new();
+    // Stays (fixed): one array for all frames and no Vec for each, as in main_judge.
     let mut events = [0; ROOM];
     let mut answers = [0; ROOM];
     for _ in 0..FRAMES {
